@@ -1,0 +1,13 @@
+pub mod Txt
+pub mod TxtCells
+pub mod Names
+pub mod Statuses
+pub mod Steps
+pub mod Tree
+pub mod Sorts
+pub mod SortsLaws
+pub mod Seen
+pub mod Values
+pub mod ValuesLaws
+pub mod Accepted
+pub mod Plain

@@ -1,0 +1,38 @@
+//! The types that every crate speaks of, and the definitions that change least: the accepted chart, sorts and values.
+#![tactic(auto)]
+
+mod chart;
+mod checked;
+mod duplicate;
+mod expr;
+mod fault;
+mod ids;
+pub mod limits;
+mod list;
+mod name;
+mod outer;
+mod part;
+mod same;
+mod status;
+mod txt;
+mod update;
+mod value;
+
+pub use chart::{Action, Activity, Chart, Event, Kind, State, Transition, Variable};
+pub use checked::Checked;
+pub use duplicate::Duplicate;
+pub use expr::{Expr, Fault, Op, TypeFault};
+pub use fault::{Failed, NoMemory};
+pub use ids::{ActId, EventId, StateId, TransId, UnitId, VarId};
+pub use list::{Bytes, List};
+pub use name::{Name, is_digit, is_letter, is_name, is_reserved, is_word_char};
+pub use outer::{Entry, Outer, OuterFault, Output};
+pub use part::{
+    Component, Flat, KnownActivity, KnownEvent, KnownState, KnownVariable, OutputSort, Part,
+    PartTransition,
+};
+pub use same::Same;
+pub use status::Status;
+pub use txt::{Txt, is_text_char};
+pub use update::{StartAt, UnitSet, Update, Write};
+pub use value::{Sort, Val};

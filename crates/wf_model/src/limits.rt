@@ -1,0 +1,52 @@
+//! How large things may be. Each limit stands here and nowhere else.
+
+/// Units of a chart.
+pub const MAX_UNITS: usize = 8;
+
+/// Events of a chart, `fault` among them.
+pub const MAX_EVENTS: usize = 128;
+
+/// Variables of a chart.
+pub const MAX_VARS: usize = 128;
+
+/// Activities of a chart.
+pub const MAX_ACTS: usize = 128;
+
+/// States of a chart.
+pub const MAX_STATES: usize = 512;
+
+/// Transitions of a chart.
+pub const MAX_TRANSITIONS: usize = 1024;
+
+/// Actions of a transition.
+pub const MAX_ACTIONS: usize = 16;
+
+/// Outputs of an activity.
+pub const MAX_OUTPUTS: usize = 8;
+
+/// Nodes of an expression: each literal, variable, test and operator is one.
+pub const MAX_NODES: usize = 64;
+
+/// How deep a state may lie. The root has depth 1.
+pub const MAX_DEPTH: usize = 16;
+
+/// Bytes of a name.
+pub const MAX_NAME: usize = 32;
+
+/// Characters of a text value.
+pub const MAX_TEXT: usize = 64;
+
+/// Bytes of an input: 4 MiB.
+pub const MAX_INPUT: usize = 4_194_304;
+
+/// Tokens of a chart's text.
+pub const MAX_TOKENS: usize = 1_048_576;
+
+/// Braces, and parentheses of an expression, that are open at once.
+pub const MAX_OPEN: usize = 64;
+
+/// Lines of a script that a plain run takes, blank ones among them.
+pub const MAX_PLAIN_LINES: usize = 2_000;
+
+/// Steps of a run.
+pub const MAX_STEPS: u32 = 20_000;

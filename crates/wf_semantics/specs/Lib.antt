@@ -1,0 +1,3 @@
+pub mod Configuration
+pub mod Entry
+pub mod Walk

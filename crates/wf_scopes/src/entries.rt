@@ -1,0 +1,1 @@
+//! What transitions enter.

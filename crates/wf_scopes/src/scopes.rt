@@ -1,0 +1,3 @@
+//! The tables.
+/// The tables of one chart.
+pub struct Scopes {}

@@ -1,0 +1,6 @@
+pub mod Bools
+pub mod Lists
+pub mod Setting
+pub mod Ancestors
+pub mod Nodes
+pub mod Walks

@@ -4,3 +4,5 @@ pub mod Setting
 pub mod Ancestors
 pub mod Nodes
 pub mod Walks
+pub mod Children
+pub mod Facts

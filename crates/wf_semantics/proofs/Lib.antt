@@ -6,3 +6,9 @@ pub mod Nodes
 pub mod Walks
 pub mod Children
 pub mod Facts
+pub mod Charts
+pub mod Places
+pub mod Scopes
+pub mod Grown
+pub mod Depth
+pub mod Steps

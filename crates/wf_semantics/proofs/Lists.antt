@@ -66,3 +66,9 @@ find_least p a (suc n) t e b m h = by_test (p a) refl e (λ k r. find_least p (a
     by_test : (c : Bool) → p a ≡ c → cond c (Some a) (find p (range_with_len (a + 1) n)) ≡ Some t → (find p (range_with_len (a + 1) n) ≡ Some t → Mem b (range_with_len (a + 1) n) → t ≤ b) → t ≤ b
     by_test true q k f = let e : a ≡ t = cc in elim m [ inl w ↦ omega arith | inr r ↦ let z = range_mem (a + 1) n b r in omega arith ]
     by_test false q k f = elim m [ inl w ↦ absurd (true≢false (sym h ∙ (ap p (sym w) ∙ q))) | inr r ↦ f k r ]
+
+pub filter_agree : (p q : ℕ → Bool) (xs : List ℕ) → ((t : ℕ) → Mem t xs → p t ≡ q t) → filter p xs ≡ filter q xs
+filter_agree p q [] h = refl
+filter_agree p q (x ∷ xs) h =
+    ap (λ (b : Bool). cond b (x ∷ filter p xs) (filter p xs)) (h x (inl refl))
+    ∙ ap (λ (ys : List ℕ). cond (q x) (x ∷ ys) ys) (filter_agree p q xs (λ t m. h t (inr m)))

@@ -1,3 +1,5 @@
 pub mod Configuration
 pub mod Entry
 pub mod Walk
+pub mod Bits
+pub mod Flat

@@ -1,1 +1,15 @@
 mod WorkedCharts
+pub mod Bools
+pub mod Lists
+pub mod Setting
+pub mod Ancestors
+pub mod Nodes
+pub mod Walks
+pub mod Children
+pub mod Facts
+pub mod Charts
+pub mod Places
+pub mod Scopes
+pub mod Grown
+pub mod Depth
+pub mod Steps

@@ -6,3 +6,5 @@ pub mod Items
 pub mod Effects
 pub mod Run
 pub mod Admission
+pub mod Bits
+pub mod Flat

@@ -54,3 +54,12 @@ set_from f a (suc n) (suc k) x h =
 
 pub row_set : {A : Type 0} (f : ℕ → A) (n k : ℕ) (x : A) (xs : List A) → xs ≡ map f (range_with_len 0 n) → k < n → set xs k x ≡ map (put f k x) (range_with_len 0 n)
 row_set f n k x xs e h = let z : 0 + k ≡ k = omega arith in rw e (set_from f 0 n k x h ∙ rw z refl)
+
+map_same : (xs : List ℕ) → map (λ x. x) xs ≡ xs
+map_same [] = refl
+map_same (x ∷ xs) = ap (λ (l : List ℕ). x ∷ l) (map_same xs)
+
+-- one number more
+pub range_more : (i : ℕ) → range_with_len 0 (i + 1) ≡ range_with_len 0 i ++ i ∷ []
+range_more i =
+    sym (map_same (range_with_len 0 (i + 1))) ∙ map-range_with_len_more (λ x. x) 0 i i (omega arith) ∙ ap (λ l. l ++ i ∷ []) (map_same (range_with_len 0 i))

@@ -1,5 +1,5 @@
 -- Bytes that are known, over several calls.
-use Rattle.std.proofs.Common.{◌≡◌, ℕ, List, ◌++◌, Option, Some, None, Result, Ok, Err, OnErr, ◌∙◌, ap, sym, append_assoc}
+use Rattle.std.proofs.Common.{ℕ, List, ◌++◌, Option, Some, None, Result, Ok, Err, OnErr, ◌∙◌, ap, sym, append_assoc}
 use Rattle.std.specs.Io.KnownBytes.{Appends, Consumes}
 
 pub appends_on : (a b c : Option (List ℕ)) (x y : List ℕ) → Appends a b x → Appends b c y → Appends a c (x ++ y)

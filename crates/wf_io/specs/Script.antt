@@ -1,5 +1,5 @@
 -- A clock that gives the moments of a list.
-use Rattle.std.specs.Prelude.{◌≡◌, ◌<◌, ℤ, List, Option, Some, None, drop, length, nat_lt, slice_get, if◌then◌else◌}
+use Rattle.std.specs.Prelude.{◌≡◌, ℤ, List, Option, Some, drop, length, nat_lt, slice_get, if◌then◌else◌}
 
 -- the moments to come, of which the last comes again and again, and the last that was given
 pub record Script : Type 0 where

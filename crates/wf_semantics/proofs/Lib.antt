@@ -13,3 +13,7 @@ pub mod Scopes
 pub mod Grown
 pub mod Depth
 pub mod Steps
+pub mod Towards
+pub mod Configured
+pub mod Tables
+pub mod LawsHold

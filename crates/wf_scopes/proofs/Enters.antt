@@ -1,6 +1,8 @@
 -- What an entry tree has, state by state.
-use Rattle.std.proofs.Common.{◌≡◌, ℕ, ◌+◌, ◌-◌, ◌<◌, ◌==◌, ◌||◌, ◌&&◌, cond, Bool, true, false, length, Option, Some, None, refl, sym, ◌∙◌, ap, ap₂, arith, eqb-true, eq-eqb, true≢false}
+use Rattle.std.proofs.Common.{◌≡◌, ℕ, ◌+◌, ◌-◌, ◌<◌, ◌==◌, ◌||◌, ◌&&◌, cond, Bool, true, false, List, length, map, get_or, Option, Some, None, refl, sym, ◌∙◌, ap, ap₂, arith, eqb-true, eq-eqb, true≢false}
 use Rattle.std.specs.Option.{option_map_or}
+use Rattle.std.specs.List.{range_with_len}
+use Rattle.wf_scopes.proofs.Rows.{row_at}
 use Rattle.wf_model.specs.declared.chart.Chart.{Chart}
 use Rattle.wf_model.specs.declared.chart.Kind.{Kind}
 use Rattle.wf_model.specs.declared.chart.Kind.TheVariants.{Or}
@@ -69,3 +71,15 @@ module _ (chart : Chart) (ok : IsAccepted chart) where
 
   pub child_high : (p k : ℕ) → parent chart k ≡ Some p → p < k
   child_high p k up = falls chart (chart_of chart ok) k p up
+
+  -- whether z is entered, by what is known of its parent p
+  pub entered_by : (t z p scope_at target_at : ℕ) (row : List Bool) (from picked : Bool) → t < length chart.transitions → parent chart z ≡ Some p → scope_at ≡ scope chart t → target_at ≡ target chart t
+      → row ≡ map (λ s. is_in s (entry_tree chart t)) (range_with_len 0 z)
+      → from ≡ ((p == scope_at) || get_or row p false) → picked ≡ picked_by (kind chart p) (child_towards chart target_at p) z
+      → (from && picked) ≡ is_in z (entry_tree chart t)
+  entered_by t z p scope_at target_at row from picked lt up sc tg rows f g =
+      let before : get_or row p false ≡ is_in p (entry_tree chart t) = row_at (λ s. is_in s (entry_tree chart t)) z p false row rows (child_high p z up) in
+      ap₂ (λ (a b : Bool). a && b)
+      (f ∙ ap₂ (λ (x : ℕ) (b : Bool). (p == x) || b) sc before)
+      (g ∙ ap (λ x. picked_by (kind chart p) (child_towards chart x p) z) tg)
+      ∙ sym (entry_bit t z p lt up)

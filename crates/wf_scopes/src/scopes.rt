@@ -74,7 +74,7 @@ impl Scopes {
     pub fn above(&self, a: StateId, b: StateId) -> bool
         ensures { (chart : AnyChart) → self.now ≡ tables_of chart → b.0 < length chart.states → result ≡ is_above chart a.0 b.0 }
     {
-        self.lineage(b).iter().any(|x| x.0 == a.0)
+        lineages::has_id(self.lineage(b), a)
     }
 
     /// The proper ancestors of a state, the lowest first. Takes no memory.

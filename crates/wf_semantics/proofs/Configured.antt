@@ -5,7 +5,7 @@ use Rattle.wf_model.specs.declared.chart.Kind.{Kind}
 use Rattle.wf_model.specs.declared.chart.Kind.TheVariants.{Basic, Or, And}
 use Rattle.wf_model.specs.Tree.{kind, parent, children, is_above}
 use Rattle.wf_semantics.specs.Configuration.{Tree, Trees, Leaf, OrNode, AndNode, NoTrees, More, root, roots, is_in, is_in_some, IsTreeOf, AreTreesOf, IsConfiguration}
-use Rattle.wf_semantics.specs.Entry.{trees, node, grown, tree_by, first_child}
+use Rattle.wf_semantics.specs.Entry.{trees, node, grown, first_child}
 use Rattle.wf_semantics.specs.Picks.{PicksChildren, picked_by}
 use Rattle.wf_semantics.specs.Bits.{active_child, tree_of_bits}
 use Rattle.wf_semantics.proofs.Bools.{and_both, not_true}

@@ -1,10 +1,9 @@
 -- Default trees, entry trees and the tree after a walk are trees of the chart; and a state of a grown tree is in by its parent.
-use Rattle.std.proofs.Common.{◌≡◌, ℕ, zero, suc, ◌+◌, ◌<◌, ◌≤◌, ◌==◌, ◌||◌, ◌&&◌, cond, Bool, true, false, List, [], ◌∷◌, length, Option, Some, None, find, unwrap_or, get_or, inl, inr, refl, sym, ap, ap₂, ◌∙◌, subst, arith, eqb-true, eq-eqb, true≢false}
-use Rattle.std.specs.Bool.{⊤}
+use Rattle.std.proofs.Common.{◌≡◌, ℕ, zero, suc, ◌+◌, ◌<◌, ◌≤◌, ◌==◌, ◌||◌, ◌&&◌, Bool, true, false, List, [], ◌∷◌, length, Option, Some, None, find, unwrap_or, get_or, inl, inr, refl, sym, ap, ap₂, ◌∙◌, subst, arith, eqb-true, eq-eqb, true≢false}
 use Rattle.wf_model.specs.declared.chart.Chart.{Chart}
 use Rattle.wf_model.specs.declared.chart.Kind.{Kind}
 use Rattle.wf_model.specs.declared.chart.Kind.TheVariants.{Basic, Or, And}
-use Rattle.wf_model.specs.Tree.{kind, parent, children, is_or, is_above, scope, target, all_transitions}
+use Rattle.wf_model.specs.Tree.{kind, parent, children, is_above, scope, target, all_transitions}
 use Rattle.wf_semantics.specs.Configuration.{Tree, Trees, Leaf, OrNode, AndNode, NoTrees, More, root, roots, is_in, is_in_some, IsTreeOf, AreTreesOf, IsConfiguration}
 use Rattle.wf_semantics.specs.Entry.{trees, node, grown, tree_by, first_child, default_tree, child_towards, entry_tree}
 use Rattle.wf_semantics.specs.Walk.{entered, walked, all_walked, first_of_scope, new_tree}

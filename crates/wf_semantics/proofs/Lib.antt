@@ -17,3 +17,5 @@ pub mod Towards
 pub mod Configured
 pub mod Tables
 pub mod LawsHold
+pub mod Runs
+mod SmallChart

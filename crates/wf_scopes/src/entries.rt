@@ -87,7 +87,8 @@ fn is_from(scope: StateId, row: &[bool], p: StateId) -> bool
     p.0 == scope.0 || row[p.0 as usize]
 }
 
-fn parent_at(chart: &Chart, z: StateId) -> Option<StateId>
+/// The parent of a state, if it has one. A number that no state has has none.
+pub fn parent_at(chart: &Chart, z: StateId) -> Option<StateId>
     ensures { option_map (λ p. p.0) result ≡ parent chart.now z.0 }
 {
     match chart.states.get(z.0 as usize) {

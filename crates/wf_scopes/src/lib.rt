@@ -6,4 +6,6 @@ mod lineages;
 mod scope;
 mod scopes;
 
+pub use entries::parent_at;
+pub use lineages::kind_of;
 pub use scopes::Scopes;

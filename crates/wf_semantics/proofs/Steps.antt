@@ -64,7 +64,7 @@ module _ (chart : Chart) (ok : IsChart chart) (enabled : ℕ → Bool) where
   abbrev pub Rules : ℕ → Type 0
   Rules t = Rule (parent chart) (IsAnd chart) (is_above chart) (IsEnabled chart enabled) (scope chart) (source chart) (first_of_scope chart enabled) (entry_tree chart) setting t
 
-  fires_rule : (t : ℕ) → t < length chart.transitions → fires chart enabled t ≡ true → Rules t
+  pub fires_rule : (t : ℕ) → t < length chart.transitions → fires chart enabled t ≡ true → Rules t
   fires_rule t lt h =
       let w = and_both (enabled t) (not (list_any enabled (blockers chart t))) h in
       let none : (b : ℕ) → IsEnabled chart enabled b → blocks chart b t ≡ true → ⊥ =
@@ -81,7 +81,7 @@ module _ (chart : Chart) (ok : IsChart chart) (enabled : ℕ → Bool) where
         ),
       )
 
-  rule_fires : (t : ℕ) → Rules t → fires chart enabled t ≡ true
+  pub rule_fires : (t : ℕ) → Rules t → fires chart enabled t ≡ true
   rule_fires t r = and_true (enabled t) (not (list_any enabled (blockers chart t))) r.0.1
       (to_not (list_any enabled (blockers chart t)) (λ h.
       let w = any_mem enabled (blockers chart t) h in

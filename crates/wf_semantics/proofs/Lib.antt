@@ -12,3 +12,4 @@ pub mod Scopes
 pub mod Grown
 pub mod Depth
 pub mod Steps
+pub mod Towards

@@ -13,3 +13,4 @@ pub mod Grown
 pub mod Depth
 pub mod Steps
 pub mod Towards
+pub mod Configured

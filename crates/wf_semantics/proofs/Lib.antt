@@ -14,3 +14,4 @@ pub mod Depth
 pub mod Steps
 pub mod Towards
 pub mod Configured
+pub mod Tables

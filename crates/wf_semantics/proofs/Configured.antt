@@ -5,8 +5,9 @@ use Rattle.wf_model.specs.declared.chart.Kind.{Kind}
 use Rattle.wf_model.specs.declared.chart.Kind.TheVariants.{Basic, Or, And}
 use Rattle.wf_model.specs.Tree.{kind, parent, children, is_above}
 use Rattle.wf_semantics.specs.Configuration.{Tree, Trees, Leaf, OrNode, AndNode, NoTrees, More, root, roots, is_in, is_in_some, IsTreeOf, AreTreesOf, IsConfiguration}
-use Rattle.wf_semantics.specs.Entry.{trees, node, grown, tree_by, first_child}
-use Rattle.wf_semantics.specs.Bits.{picked_by, active_child, tree_of_bits}
+use Rattle.wf_semantics.specs.Entry.{trees, node, grown, first_child}
+use Rattle.wf_semantics.specs.Picks.{PicksChildren, picked_by}
+use Rattle.wf_semantics.specs.Bits.{active_child, tree_of_bits}
 use Rattle.wf_semantics.proofs.Bools.{and_both, not_true}
 use Rattle.wf_semantics.proofs.Lists.{find_some, find_none}
 use Rattle.wf_semantics.proofs.Ancestors.{by_up}
@@ -15,7 +16,7 @@ use Rattle.wf_semantics.proofs.Children.{kind_past, parent_inside, mem_children,
 use Rattle.wf_semantics.proofs.Facts.{IsChart}
 use Rattle.wf_semantics.proofs.Charts.{IsAnd, falls, shaped}
 use Rattle.wf_semantics.proofs.Places.{IsBelow, IsBelowSome, above_low, above_none, above_child, parent_above, siblings, node_under, apart_roots, below_some_root, under_low, below_child, below_some_above}
-use Rattle.wf_semantics.proofs.Grown.{Picks, root_in, grown_root, grown_bit, tree_by_tree, first_picks}
+use Rattle.wf_semantics.proofs.Grown.{root_in, grown_root, grown_bit, tree_by_tree, first_picks}
 
 not_basic : Basic ≡ Or → ⊥
 not_basic q = cc
@@ -101,7 +102,7 @@ pub same_configuration : (chart : Chart) → IsChart chart → (c d : Tree) → 
 same_configuration chart ok c d hc hd same = sym (tree_of_its_bits chart ok c hc) ∙ tree_of_same_bits chart ok (λ z. is_in z c) d hd same
 
 module _ (chart : Chart) (ok : IsChart chart) where
-  pub active_picks : (inside : ℕ → Bool) → Picks chart (active_child chart inside)
+  pub active_picks : (inside : ℕ → Bool) → PicksChildren chart (active_child chart inside)
   active_picks inside s e = go (find inside (children chart s)) refl
     where
       go : (o : Option ℕ) → find inside (children chart s) ≡ o → parent chart (unwrap_or o (first_child chart s)) ≡ Some s

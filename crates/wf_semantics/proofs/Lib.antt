@@ -15,3 +15,4 @@ pub mod Steps
 pub mod Towards
 pub mod Configured
 pub mod Tables
+pub mod LawsHold

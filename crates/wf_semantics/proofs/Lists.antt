@@ -1,5 +1,5 @@
 -- Filters and searches over a range of numbers.
-use Rattle.std.proofs.Common.{◌≡◌, ℕ, zero, suc, ◌+◌, ◌<◌, ◌≤◌, ◌==◌, cond, ◌⊎◌, Bool, true, false, List, [], ◌∷◌, Some, None, filter, find,  inl, inr, refl, sym, ap, ◌∙◌, arith, eqb-true, eq-eqb, true≢false}
+use Rattle.std.proofs.Common.{◌≡◌, ℕ, zero, suc, ◌+◌, ◌<◌, ◌≤◌, ◌==◌, cond, ◌⊎◌, Bool, true, false, List, [], ◌∷◌, Some, None, filter, find, inl, inr, refl, sym, ap, ◌∙◌, arith, eqb-true, eq-eqb, true≢false}
 use Rattle.std.specs.List.{range_with_len}
 use Rattle.wf_model.specs.Tree.{is_among}
 use Rattle.wf_semantics.proofs.Bools.{Mem, or_cases, or_left, or_right}

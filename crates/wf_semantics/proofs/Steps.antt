@@ -1,10 +1,10 @@
 -- The walk fires what the rule fires, and moves what that enters and leaves.
-use Rattle.std.proofs.Common.{◌≡◌, ℕ, ◌<◌, ◌≤◌, ◌==◌, ◌||◌, ◌&&◌, not, cond, nat_lt, Bool, true, false, List, [], ◌∷◌, length, filter, inl, inr, refl, sym, ap, ap₂, ◌∙◌, subst, arith, eqb-true, eq-eqb, true≢false, ltb-true, lt-ltb}
+use Rattle.std.proofs.Common.{◌≡◌, ℕ, ◌<◌, ◌≤◌, ◌==◌, ◌||◌, ◌&&◌, not, nat_lt, Bool, true, false, List, length, filter, inl, inr, refl, sym, ap, ap₂, ◌∙◌, subst, arith, eqb-true, eq-eqb, true≢false, ltb-true, lt-ltb}
 use Rattle.std.specs.List.{list_any}
 use Rattle.wf_model.specs.declared.chart.Chart.{Chart}
 use Rattle.wf_model.specs.declared.chart.Kind.{Kind}
 use Rattle.wf_model.specs.declared.chart.Kind.TheVariants.{Basic, Or, And}
-use Rattle.wf_model.specs.Tree.{kind, parent, is_or, is_above, is_among, scope, source, target, all_transitions}
+use Rattle.wf_model.specs.Tree.{kind, parent, is_or, is_above, is_among, scope, source, all_transitions}
 use Rattle.wf_semantics.specs.Configuration.{Tree, root, is_in, IsConfiguration}
 use Rattle.wf_semantics.specs.Entry.{entry_tree}
 use Rattle.wf_semantics.specs.Walk.{first_of_scope, new_tree, fired, fired_of}

@@ -1,19 +1,19 @@
 -- What tables of states rest on: the first child is the next state, and the states of a tree in one pass.
-use Rattle.std.proofs.Common.{◌≡◌, ℕ, zero, suc, ◌+◌, ◌-◌, ◌<◌, ◌≤◌, ◌==◌, ◌||◌, ◌&&◌, cond, Bool, true, false, List, [], ◌∷◌, ◌++◌, length, Option, Some, None, filter, find, unwrap_or, get_or, inl, inr, refl, sym, ap, ◌∙◌, subst, arith, eqb-true, eq-eqb, true≢false}
+use Rattle.std.proofs.Common.{◌≡◌, ℕ, zero, suc, ◌+◌, ◌-◌, ◌<◌, ◌≤◌, ◌==◌, ◌||◌, ◌&&◌, cond, Bool, true, false, ◌∷◌, length, Option, Some, None, filter, find, unwrap_or, get_or, inl, inr, refl, sym, ap, ◌∙◌, subst, arith, eqb-true, eq-eqb, true≢false}
 use Rattle.std.specs.List.{range_with_len}
 use Rattle.std.specs.Option.{option_map_or}
 use Rattle.wf_model.specs.declared.chart.Chart.{Chart}
 use Rattle.wf_model.specs.Tree.{kind, parent, children, is_child_of, is_above}
 use Rattle.wf_semantics.specs.Configuration.{is_in}
 use Rattle.wf_semantics.specs.Entry.{first_child, child_towards, tree_by}
-use Rattle.wf_semantics.specs.Bits.{picked_by}
+use Rattle.wf_semantics.specs.Picks.{PicksChildren, picked_by}
 use Rattle.wf_semantics.proofs.Bools.{or_cases, or_left, or_right, not_true, bool_iff}
 use Rattle.wf_semantics.proofs.Lists.{find_no}
 use Rattle.wf_semantics.proofs.Children.{lt_or_ge, child_of, parent_inside, mem_child_parent}
 use Rattle.wf_semantics.proofs.Facts.{IsChart}
 use Rattle.wf_semantics.proofs.Charts.{falls}
 use Rattle.wf_semantics.proofs.Places.{above_step, above_none, above_low, above_trans, parent_above, below_child}
-use Rattle.wf_semantics.proofs.Grown.{Picks, grown_bit, under_grown}
+use Rattle.wf_semantics.proofs.Grown.{grown_bit, under_grown}
 use Rattle.wf_semantics.proofs.Towards.{top_in, towards_is, child_on_path, test_below}
 
 -- the first number of a range that passes a test is the first of those that pass
@@ -89,7 +89,7 @@ module _ (chart : Chart) (ok : IsChart chart) where
           (λ h. eq-eqb (child_towards chart x p) k (first ∙ sym (eqb-true k (p + 1) h)))
 
   -- the states of a tree, in one pass: s is in, and each other state by its parent
-  pub tree_bit : (pick : ℕ → ℕ) → Picks chart pick → (s z : ℕ) → is_in z (tree_by chart pick s) ≡ ((s == z) || option_map_or (λ p. is_in p (tree_by chart pick s) && picked_by (kind chart p) (pick p) z) (parent chart z) false)
+  pub tree_bit : (pick : ℕ → ℕ) → PicksChildren chart pick → (s z : ℕ) → is_in z (tree_by chart pick s) ≡ ((s == z) || option_map_or (λ p. is_in p (tree_by chart pick s) && picked_by (kind chart p) (pick p) z) (parent chart z) false)
   tree_bit pick fits s z = go (s == z) refl (parent chart z) refl
     where
       go : (b : Bool) → (s == z) ≡ b → (o : Option ℕ) → parent chart z ≡ o → is_in z (tree_by chart pick s) ≡ (b || option_map_or (λ p. is_in p (tree_by chart pick s) && picked_by (kind chart p) (pick p) z) o false)

@@ -1,12 +1,12 @@
 -- The child of a state towards another, and the tree that such children make.
-use Rattle.std.proofs.Common.{◌≡◌, ℕ, zero, suc, ◌<◌, ◌≤◌, ◌==◌, ◌||◌, ◌&&◌, cond, Bool, true, false, List, [], ◌∷◌, length, Option, Some, None, find, unwrap_or, inl, inr, refl, sym, ap, ◌∙◌, subst, arith, eqb-true, eq-eqb, true≢false}
+use Rattle.std.proofs.Common.{◌≡◌, ℕ, zero, suc, ◌<◌, ◌≤◌, ◌==◌, ◌||◌, Bool, true, List, length, Option, Some, None, find, unwrap_or, inl, inr, refl, sym, ap, ◌∙◌, subst, arith, eqb-true, eq-eqb, true≢false}
 use Rattle.wf_model.specs.declared.chart.Chart.{Chart}
 use Rattle.wf_model.specs.declared.chart.Kind.{Kind}
 use Rattle.wf_model.specs.declared.chart.Kind.TheVariants.{Basic, Or, And}
 use Rattle.wf_model.specs.Tree.{kind, parent, children, is_above, scope, target}
 use Rattle.wf_semantics.specs.Configuration.{is_in, root}
 use Rattle.wf_semantics.specs.Entry.{tree_by, first_child, child_towards, entry_tree}
-use Rattle.wf_semantics.specs.Bits.{picked_by}
+use Rattle.wf_semantics.specs.Picks.{picked_by}
 use Rattle.wf_semantics.proofs.Bools.{Mem, or_cases, or_left, or_right, and_true, not_true}
 use Rattle.wf_semantics.proofs.Lists.{find_some, find_none, find_no}
 use Rattle.wf_semantics.proofs.Ancestors.{by_up}

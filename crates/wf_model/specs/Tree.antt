@@ -72,7 +72,11 @@ ancestors chart s = ancestors_by (parent chart) s s
 abbrev pub is_above : Chart → ℕ → ℕ → Bool
 is_above chart a s = is_among (ancestors chart s) a
 
+-- the lowest Or state that is a proper ancestor of both
+abbrev pub scope_between : Chart → ℕ → ℕ → ℕ
+scope_between chart source target =
+    unwrap_or (find (λ a. is_or (kind chart a) && is_above chart a target) (ancestors chart source)) 0
+
 -- the scope of transition t: the lowest Or state that is a proper ancestor of both its source and its target
 abbrev pub scope : Chart → ℕ → ℕ
-scope chart t =
-    unwrap_or (find (λ a. is_or (kind chart a) && is_above chart a (target chart t)) (ancestors chart (source chart t))) 0
+scope chart t = scope_between chart (source chart t) (target chart t)

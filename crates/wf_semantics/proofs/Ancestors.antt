@@ -28,7 +28,8 @@ below_low up n d (suc fuel) s a le h = by_up up s
     ])
 
 module _ (up : ℕ → Option ℕ) (d : (s p : ℕ) → up s ≡ Some p → p < s) where
-  enough : (f g s : ℕ) → s ≤ f → s ≤ g → ancestors_by up f s ≡ ancestors_by up g s
+  -- the ancestors are the same, whatever bounds their number
+  pub enough : (f g s : ℕ) → s ≤ f → s ≤ g → ancestors_by up f s ≡ ancestors_by up g s
   unfolding ancestors_by
   enough zero zero s hf hg = refl
   enough zero (suc g) s hf hg = by_up up s (λ e. rw e) (λ p e. absurd (omega (arith, d s p e)))

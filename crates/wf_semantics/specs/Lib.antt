@@ -1,6 +1,11 @@
 pub mod Configuration
 pub mod Entry
 pub mod Walk
+pub mod Snapshot
+pub mod Items
+pub mod Effects
+pub mod Run
+pub mod Admission
 pub mod Picks
 pub mod Bits
 pub mod Flat

@@ -1,0 +1,3 @@
+pub mod Plains
+pub mod Walks
+pub mod Novel

@@ -1,0 +1,21 @@
+//! Whether names differ.
+ghost use Rattle.std.specs.Prelude.{◌≡◌, IfOk};
+ghost use Rattle.wf_check.specs.Checks.{texts};
+ghost use Rattle.wf_model.specs.Accepted as spec;
+
+use std::alloc::Global;
+use std::collections::HashSet;
+use wf_model::NoMemory;
+
+/// Whether no name stands twice. Linear in the names' bytes on average, by a set of the names so far.
+pub fn are_distinct(alloc: Global, names: &[&[u8]]) -> Result<bool, NoMemory>
+    ensures { IfOk result (λ distinct. distinct ≡ spec.all_numbered (spec.is_new (texts names.now)) (texts names.now)) }
+{
+    let mut seen = HashSet::new(alloc);
+    for name in names {
+        if !seen.insert(*name)? {
+            return Ok(false);
+        }
+    }
+    Ok(true)
+}

@@ -1,0 +1,11 @@
+use Rattle.std.proofs.Common.{◌≡◌, length, ◌+◌, ◌-◌}
+use Rattle.std.specs.Io.KnownBytes.{Consumes}
+use Rattle.wf_io.proofs.whole.read_all.Given as goal
+
+abbrev pub invariant-loop-piece : goal.invariant-loop-piece
+invariant-loop-piece g l =
+    Consumes (g.S.Source.left l.fn.source) (g.S.Source.left l.source) l.bytes
+    × (g.S.Source.faults l.source ≡ g.S.Source.faults l.fn.source)
+
+abbrev pub decreases-loop-piece : goal.decreases-loop-piece
+decreases-loop-piece g l = l.limit + 1 - length l.bytes

@@ -1,0 +1,107 @@
+//! Who is above whom.
+ghost use Rattle.std.specs.Prelude.{◌≡◌, ◌<◌, ◌≤◌, ◌∷◌, ◌==◌, [], length, IfOk, IfSome, slice_index_or};
+ghost use Rattle.std.specs.List.{list_any};
+ghost use Rattle.wf_model.specs.Accepted.{IsAccepted};
+ghost use Rattle.wf_model.specs.Tree.{list_from, is_above, kind};
+ghost use Rattle.wf_scopes.specs.Tables.{lineages_of, below_of, below_ids};
+ghost use Rattle.wf_model.specs.declared.limits.TheConstants.{MAX_STATES};
+
+use std::alloc::Global;
+use wf_model::{Chart, Kind, List, NoMemory, StateId};
+
+// The ancestors of a state with this parent, whose own ancestors are known.
+fn lineage(
+    alloc: Global,
+    known: &[List<StateId>],
+    parent: Option<StateId>,
+) -> Result<List<StateId>, NoMemory>
+    requires { IfSome parent (λ p. p.0 < length known.now) }
+    ensures { IfOk result (λ ids. ids ≡ list_from (λ p. p ∷ slice_index_or known.now p.0 []) parent) }
+{
+    let mut ids = List::new(alloc);
+    if let Some(p) = parent {
+        ids.push(p)?;
+        ids.append(known[p.0 as usize].as_slice())?;
+    }
+    Ok(ids)
+}
+
+/// The proper ancestors of each state, the lowest first. Grows with the states times their depth.
+#[tactic(auto, using(crate::proofs::Lines::line_read, crate::proofs::Lines::parent_low, crate::proofs::Rows::row_more, crate::proofs::Rows::row_len), unfolding(crate::specs::Tables::lineages_of))]
+pub fn lineages(alloc: Global, chart: &Chart) -> Result<List<List<StateId>>, NoMemory>
+    requires { IsAccepted chart.now }
+    ensures { IfOk result (λ table. table ≡ lineages_of chart.now) }
+{
+    let mut table: List<List<StateId>> = List::new(alloc);
+    for state in chart.states.as_slice() {
+        let ids = lineage(alloc, table.as_slice(), state.parent)?;
+        table.push(ids)?;
+    }
+    Ok(table)
+}
+
+fn has_id(ids: &[StateId], a: StateId) -> bool
+    ensures { result ≡ list_any (λ x. x.0 == a.0) ids.now }
+{
+    ids.iter().any(|x| x.0 == a.0)
+}
+
+/// Whether state `a` is a proper ancestor of state `b`. Grows with the depth.
+#[tactic(auto, using(crate::proofs::Lines::above_read))]
+pub fn is_above(lineages: &[List<StateId>], chart: &Chart, a: StateId, b: StateId) -> bool
+    requires of { lineages.now ≡ lineages_of chart.now }
+    requires in_range { b.0 < length chart.now.states }
+    ensures { result ≡ is_above chart.now a.0 b.0 }
+{
+    has_id(lineages[b.0 as usize].as_slice(), a)
+}
+
+/// The states below state `s`, ascending. Grows with the states times their depth.
+fn states_below(
+    alloc: Global,
+    lineages: &[List<StateId>],
+    chart: &Chart,
+    s: StateId,
+) -> Result<List<StateId>, NoMemory>
+    requires of { lineages.now ≡ lineages_of chart.now }
+    requires few { length chart.now.states ≤ MAX_STATES }
+    ensures { IfOk result (λ ids. ids ≡ below_ids chart.now s.0) }
+{
+    let mut ids = List::new(alloc);
+    for z in 0..chart.states.len() {
+        let z = StateId(z as u32);
+        if is_above(lineages, chart, s, z) {
+            ids.push(z)?;
+        }
+    }
+    Ok(ids)
+}
+
+/// The states below each state. Grows with the square of the states times their depth.
+#[tactic(auto, using(crate::proofs::Rows::row_more), unfolding(crate::specs::Tables::below_of))]
+pub fn below(
+    alloc: Global,
+    lineages: &[List<StateId>],
+    chart: &Chart,
+) -> Result<List<List<StateId>>, NoMemory>
+    requires of { lineages.now ≡ lineages_of chart.now }
+    requires few { length chart.now.states ≤ MAX_STATES }
+    ensures { IfOk result (λ table. table ≡ below_of chart.now) }
+{
+    let mut table: List<List<StateId>> = List::new(alloc);
+    for s in 0..chart.states.len() {
+        let ids = states_below(alloc, lineages, chart, StateId(s as u32))?;
+        table.push(ids)?;
+    }
+    Ok(table)
+}
+
+/// The kind of a state. A number that no state has counts as basic.
+pub fn kind_of(chart: &Chart, s: StateId) -> Kind
+    ensures { result ≡ kind chart.now s.0 }
+{
+    match chart.states.get(s.0 as usize) {
+        Some(state) => state.kind,
+        None => Kind::Basic,
+    }
+}

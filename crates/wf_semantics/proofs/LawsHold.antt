@@ -1,7 +1,8 @@
 -- The laws, of each accepted chart.
 use Rattle.std.proofs.Common.{ap, subst, sym}
 use Rattle.wf_model.specs.Tree.{kind, is_or, scope, target}
-use Rattle.wf_semantics.specs.Laws.{DefaultIsConfiguration, WalkKeepsConfigurations, TreesRead, ConfigurationIsItsBits, ScopeIsLowest, EntryTreeFits, WalkFiresByRule, WalkMovesByRule}
+use Rattle.wf_semantics.specs.Run.{central_run}
+use Rattle.wf_semantics.specs.Laws.{DefaultIsConfiguration, WalkKeepsConfigurations, TreesRead, ConfigurationIsItsBits, ScopeIsLowest, EntryTreeFits, WalkFiresByRule, WalkMovesByRule, RunGoesByRule}
 use Rattle.wf_semantics.proofs.Children.{or_of}
 use Rattle.wf_semantics.proofs.Facts.{chart_of}
 use Rattle.wf_semantics.proofs.Places.{IsBelow}
@@ -11,6 +12,7 @@ use Rattle.wf_semantics.proofs.Depth.{tree_by_reads}
 use Rattle.wf_semantics.proofs.Towards.{entry_root, entry_towards, target_in}
 use Rattle.wf_semantics.proofs.Configured.{tree_of_its_bits, same_configuration}
 use Rattle.wf_semantics.proofs.Steps.{same_fired, same_bits}
+use Rattle.wf_semantics.proofs.Runs.{run_configuration, step_fires}
 
 pub default_is_configuration : DefaultIsConfiguration
 default_is_configuration chart ok = default_configuration chart (chart_of chart ok)
@@ -41,3 +43,7 @@ walk_fires_by_rule chart enabled c ok conf active = same_fired chart (chart_of c
 
 pub walk_moves_by_rule : WalkMovesByRule
 walk_moves_by_rule chart enabled c z ok conf = same_bits chart (chart_of chart ok) enabled c conf z
+
+pub run_goes_by_rule : RunGoesByRule
+run_goes_by_rule chart steps entries ok = let is = chart_of chart ok in
+    (run_configuration chart is steps, step_fires chart is (central_run chart steps) entries (run_configuration chart is steps))

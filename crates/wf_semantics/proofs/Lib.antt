@@ -16,4 +16,6 @@ pub mod Steps
 pub mod Towards
 pub mod Configured
 pub mod Tables
+pub mod Runs
 pub mod LawsHold
+mod SmallChart

@@ -3,6 +3,8 @@ use Rattle.std.proofs.Common.{◌≡◌, ℕ, zero, suc, ◌+◌, ◌-◌, ◌<�
 use Rattle.std.specs.List.{range_with_len}
 use Rattle.std.specs.Option.{option_map_or}
 use Rattle.wf_model.specs.declared.chart.Chart.{Chart}
+use Rattle.wf_model.specs.declared.chart.Kind.{Kind}
+use Rattle.wf_model.specs.declared.chart.Kind.TheVariants.{Or}
 use Rattle.wf_model.specs.Tree.{kind, parent, children, is_child_of, is_above}
 use Rattle.wf_semantics.specs.Configuration.{is_in}
 use Rattle.wf_semantics.specs.Entry.{first_child, child_towards, tree_by}
@@ -99,3 +101,7 @@ module _ (chart : Chart) (ok : IsChart chart) where
         | inr w ↦ true≢false (sym w ∙ above_none chart ok z s e)
       ])
       go false q (Some p) e = grown_bit chart ok pick fits s z p e (λ w. true≢false (sym (eq-eqb s z (sym w)) ∙ q))
+
+  -- whether an Or state has its child k in, as the code tests it
+  pub or_pick : (x p k : ℕ) → kind chart p ≡ Or → parent chart k ≡ Some p → picked_by (kind chart p) (child_towards chart x p) k ≡ cond (is_above chart p x) ((k == x) || is_above chart k x) (k == (p + 1))
+  or_pick x p k o e = ap (λ (c : Kind). picked_by c (child_towards chart x p) k) o ∙ towards_test x p k e

@@ -1,13 +1,16 @@
 -- Laws of configurations, entry trees and the walk. Each holds of every accepted chart.
-use Rattle.std.specs.Prelude.{ℕ, ◌≡◌, ◌<◌, ◌||◌, ◌&&◌, ◌⊎◌, not, Bool, true, length, filter, Some}
+use Rattle.std.specs.Prelude.{ℕ, ◌≡◌, ◌<◌, ◌||◌, ◌&&◌, ◌⊎◌, not, Bool, true, List, length, filter, Some}
 use Rattle.std.specs.List.{list_any}
 use Rattle.wf_model.specs.declared.chart.Chart.{Chart}
 use Rattle.wf_model.specs.declared.chart.Kind.TheVariants.{Or}
+use Rattle.wf_model.specs.declared.outer.Entry.{Entry}
 use Rattle.wf_model.specs.Tree.{kind, parent, children, is_above, scope, source, target, all_transitions}
 use Rattle.wf_model.specs.Accepted.{IsAccepted}
 use Rattle.wf_semantics.specs.Configuration.{Tree, root, is_in, IsTreeOf, IsConfiguration}
 use Rattle.wf_semantics.specs.Entry.{trees, node, tree_by, first_child, default_tree, child_towards, entry_tree}
 use Rattle.wf_semantics.specs.Walk.{new_tree, fired_of}
+use Rattle.wf_semantics.specs.Snapshot.{is_enabled}
+use Rattle.wf_semantics.specs.Run.{central_run, snapshot_of, fired_in}
 use Rattle.wf_semantics.specs.Picks.{PicksChildren}
 use Rattle.wf_semantics.specs.Bits.{tree_of_bits}
 use Rattle.wf_semantics.specs.Flat.{fires, HaveActiveSources}
@@ -71,3 +74,11 @@ WalkMovesByRule =
     is_in z (new_tree chart enabled c)
     ≡ (list_any (λ t. is_in z (entry_tree chart t)) (fired_of chart enabled c)
     || (is_in z c && not (list_any (λ t. is_above chart (scope chart t) z) (fired_of chart enabled c))))
+
+-- after each list of steps the central run is in a configuration, and what fires in the next step fires by the rule
+abbrev pub RunGoesByRule : Type 0
+RunGoesByRule =
+    (chart : Chart) (steps : List (List Entry)) (entries : List Entry) → IsAccepted chart →
+    IsConfiguration chart (central_run chart steps).configuration
+    × (fired_in chart (central_run chart steps) entries
+    ≡ filter (fires chart (is_enabled chart (snapshot_of chart (central_run chart steps) entries))) (all_transitions chart))

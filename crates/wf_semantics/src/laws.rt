@@ -1,5 +1,5 @@
 //! Laws of configurations, entry trees and the walk, for every accepted chart.
-ghost use Rattle.wf_semantics.specs.Laws.{DefaultIsConfiguration, WalkKeepsConfigurations, TreesRead, ConfigurationIsItsBits, ScopeIsLowest, EntryTreeFits, WalkFiresByRule, WalkMovesByRule};
+ghost use Rattle.wf_semantics.specs.Laws.{DefaultIsConfiguration, WalkKeepsConfigurations, TreesRead, ConfigurationIsItsBits, ScopeIsLowest, EntryTreeFits, WalkFiresByRule, WalkMovesByRule, RunGoesByRule};
 
 /// The default tree of the root is a configuration.
 pub fn default_is_configuration()
@@ -42,4 +42,10 @@ pub fn walk_fires_by_rule()
 /// has its scope above it.
 pub fn walk_moves_by_rule()
     ensures { WalkMovesByRule }
+{}
+
+/// After each list of steps the central run is in a configuration, and what fires in the next step are the enabled transitions
+/// that no enabled transition blocks.
+pub fn run_goes_by_rule()
+    ensures { RunGoesByRule }
 {}

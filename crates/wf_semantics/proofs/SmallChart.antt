@@ -1,9 +1,9 @@
 -- A chart that is accepted: the laws speak of some chart.
-use Rattle.std.proofs.Common.{◌≡◌, true, List, [], ◌∷◌, Some, None, refl}
+use Rattle.std.proofs.Common.{[], ◌∷◌, Some, None, refl}
 use lib.Chars.{codes}
 use Rattle.wf_model.specs.declared.chart.Chart.{Chart}
 use Rattle.wf_model.specs.declared.chart.Kind.TheVariants.{Basic, Or}
-use Rattle.wf_model.specs.Tree.{children, ancestors_by}
+use Rattle.wf_model.specs.Tree.{ancestors_by}
 use Rattle.wf_model.specs.Names.{is_reserved, is_name}
 use Rattle.wf_model.specs.Accepted.{IsAccepted, is_accepted, is_small, is_numbered, is_named, is_shaped, is_sorted}
 

@@ -5,6 +5,6 @@
 mod laws;
 
 pub use laws::{
-    configuration_is_its_bits, default_is_configuration, entry_tree_fits, run_goes_by_rule, scope_is_lowest,
-    trees_read, walk_fires_by_rule, walk_keeps_configurations, walk_moves_by_rule,
+    configuration_is_its_bits, default_is_configuration, entry_tree_fits, run_goes_by_rule,
+    scope_is_lowest, trees_read, walk_fires_by_rule, walk_keeps_configurations, walk_moves_by_rule,
 };

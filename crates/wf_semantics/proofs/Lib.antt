@@ -16,6 +16,6 @@ pub mod Steps
 pub mod Towards
 pub mod Configured
 pub mod Tables
-pub mod Runs
 pub mod LawsHold
+pub mod Runs
 mod SmallChart

@@ -6,7 +6,7 @@ pub mod Items
 pub mod Effects
 pub mod Run
 pub mod Admission
-pub mod Picks
 pub mod Bits
 pub mod Flat
+pub mod Picks
 pub mod Laws

@@ -1,0 +1,5 @@
+pub mod Starts
+pub mod Firing
+pub mod Choosing
+pub mod Quiet
+pub mod Passing

@@ -1,5 +1,5 @@
 //! The states that are in before the first step.
-ghost use Rattle.std.specs.Prelude.{◌≡◌, ◌<◌, ◌==◌, ◌+◌, map, length, Some, IfOk};
+ghost use Rattle.std.specs.Prelude.{◌≡◌, ◌<◌, ◌&&◌, false, slice_index_or, map, length, Some, IfOk};
 ghost use Rattle.std.specs.List.{range_with_len};
 ghost use Rattle.wf_model.specs.Accepted.{IsAccepted};
 ghost use Rattle.wf_model.specs.Tree.{all_states, parent, kind};
@@ -25,6 +25,17 @@ fn is_first(chart: &Chart, p: StateId, z: StateId) -> bool
     }
 }
 
+// Whether child `z` of state `p` is in by default, where the row says whether `p` is.
+fn is_child_in(chart: &Chart, row: &[bool], p: StateId, z: StateId) -> bool
+    requires accepted { IsAccepted chart.now }
+    requires child { parent chart.now z.0 ≡ Some p.0 }
+    requires later { p.0 < z.0 }
+    requires before { p.0 < length row.now }
+    ensures { result ≡ (slice_index_or row.now p.0 false && picked_by (kind chart.now p.0) (first_child chart.now p.0) z.0) }
+{
+    row[p.0 as usize] && is_first(chart, p, z)
+}
+
 // Whether state `z` is in by default, where the row says what of the states before it is.
 fn is_default(chart: &Chart, row: &[bool], z: StateId) -> bool
     requires accepted { IsAccepted chart.now }
@@ -32,7 +43,7 @@ fn is_default(chart: &Chart, row: &[bool], z: StateId) -> bool
     ensures { result ≡ is_in z.0 (default_tree chart.now 0) }
 {
     match parent_at(chart, z) {
-        Some(p) => row[p.0 as usize] && is_first(chart, p, z),
+        Some(p) => is_child_in(chart, row, p, z),
         None => z.0 == 0,
     }
 }

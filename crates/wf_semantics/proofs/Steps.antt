@@ -36,7 +36,7 @@ and_no_or Basic p q = true≢false (sym q)
 and_no_or Or p q = cc
 and_no_or And p q = true≢false (sym q)
 
-mem_transition : (chart : Chart) (t : ℕ) → t < length chart.transitions → Mem t (all_transitions chart)
+pub mem_transition : (chart : Chart) (t : ℕ) → t < length chart.transitions → Mem t (all_transitions chart)
 mem_transition chart t lt = mem_range 0 (length chart.transitions) t (omega arith) (omega arith)
 
 pub transition_mem : (chart : Chart) (t : ℕ) → Mem t (all_transitions chart) → t < length chart.transitions

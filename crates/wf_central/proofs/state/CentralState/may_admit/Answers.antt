@@ -1,0 +1,21 @@
+use Rattle.std.proofs.Common.{rules, ◌≡◌, ◌+◌, ◌<◌, length, IsTrue, IfOk, OnOk, OnErr, ℕ, ◌-◌, ◌*◌, ◌≤◌, ◌/◌, ◌%◌, Bool, true, false, nat_eq, nat_lt, List, [], ◌∷◌, ◌++◌, slice_index_or, slice_set, bit_and, bit_or, Fits, w8, w32, w64, Bor, MutBor}
+use Rattle.wf_model.specs.Plain.{is_plain}
+use Rattle.wf_model.specs.declared.chart.Chart.{Chart as AnyChart}
+use Rattle.wf_model.specs.declared.limits.TheConstants.{MAX_STEPS}
+use Rattle.wf_semantics.specs.Configuration.{is_in}
+use Rattle.wf_semantics.specs.Run.{first_state, next_state}
+use Rattle.wf_semantics.specs.Admission.{may_be_admitted, is_event_at}
+use Rattle.wf_central.specs.Kept.{central_of, IsOf, notes_of}
+use Rattle.wf_central.proofs.state.CentralState.may_admit.Goals as goal
+
+-- src/state.rt:78:5
+pub returns-then-is_event_at : goal.returns-then-is_event_at
+returns-then-is_event_at c = ?
+
+-- src/state.rt:78:5
+pub returns-else-is_event_at : goal.returns-else-is_event_at
+returns-else-is_event_at c = ?
+
+-- src/state.rt:78:5
+pub returns-in-Complete : goal.returns-in-Complete
+returns-in-Complete c = ?

@@ -29,7 +29,7 @@ module _ (chart : Chart) (ready : List Bool) where
   passed_over t table pos le off rows =
       rows ∙ row_agree (chosen_from chart ready t) (chosen_from chart ready (t - 1)) (length chart.states)
       (λ s lt. sym (down t s pos le ∙ ap (λ (b : Bool). option_map trans_id (cond (b && (scope chart (t - 1) == s)) (Some (t - 1))
-        (find (λ u. bit ready u && (scope chart u == s)) (range_with_len t (length chart.transitions - t))))) off))
+      (find (λ u. bit ready u && (scope chart u == s)) (range_with_len t (length chart.transitions - t))))) off))
 
   -- one that is ready is chosen at its scope
   pub taken_up : (t sc : ℕ) (table new : List (Option TransId)) → 0 < t → t ≤ length chart.transitions → bit ready (t - 1) ≡ true → sc ≡ scope chart (t - 1) → sc < length chart.states →
@@ -37,10 +37,10 @@ module _ (chart : Chart) (ready : List Bool) where
   taken_up t sc table new pos le on same within rows is =
       is ∙ row_set (chosen_from chart ready t) (length chart.states) sc (Some (trans_id (t - 1))) table rows within
       ∙ row_agree (put (chosen_from chart ready t) sc (Some (trans_id (t - 1)))) (chosen_from chart ready (t - 1)) (length chart.states)
-        (λ s lt. sym (down t s pos le
-          ∙ ap (λ (b : Bool). option_map trans_id (cond (b && (scope chart (t - 1) == s)) (Some (t - 1))
-            (find (λ u. bit ready u && (scope chart u == s)) (range_with_len t (length chart.transitions - t))))) on
-          ∙ here s))
+      (λ s lt. sym (down t s pos le
+      ∙ ap (λ (b : Bool). option_map trans_id (cond (b && (scope chart (t - 1) == s)) (Some (t - 1))
+      (find (λ u. bit ready u && (scope chart u == s)) (range_with_len t (length chart.transitions - t))))) on
+      ∙ here s))
     where
       pick : (b : Bool) (o : Option ℕ) → option_map trans_id (cond b (Some (t - 1)) o) ≡ cond b (Some (trans_id (t - 1))) (option_map trans_id o)
       pick true o = refl

@@ -105,10 +105,10 @@ module _ (chart : Chart) (ok : IsChart chart) (enabled : ℕ → Bool) where
   fires_firing t lt h =
       let r = fires_rule chart ok enabled t lt h in
       let free : held (scope chart t) ≡ false = not_true (held (scope chart t)) (λ k.
-          let w = any_mem (λ a. is_some (first a)) (ancestors chart (scope chart t)) k in
-          let u = some_of (first w.0) w.2 in
-          let f = (setting chart ok enabled).first_some w.0 u.0 u.1 in
-          r.1.0 u.0 f.0 (subst (λ (x : ℕ). is_above chart x (scope chart t) ≡ true) (sym f.1) (mem_among (ancestors chart (scope chart t)) w.0 w.1))) in
+      let w = any_mem (λ a. is_some (first a)) (ancestors chart (scope chart t)) k in
+      let u = some_of (first w.0) w.2 in
+      let f = (setting chart ok enabled).first_some w.0 u.0 u.1 in
+      r.1.0 u.0 f.0 (subst (λ (x : ℕ). is_above chart x (scope chart t) ≡ true) (sym f.1) (mem_among (ancestors chart (scope chart t)) w.0 w.1))) in
       ap (λ (b : Bool). cond b None (first (scope chart t))) free ∙ go (first (scope chart t)) refl r.0 r.1.1
     where
       go : (o : Option ℕ) → first (scope chart t) ≡ o → (t < length chart.transitions) × (enabled t ≡ true)
@@ -167,13 +167,13 @@ module _ (chart : Chart) (ok : IsChart chart) (enabled : ℕ → Bool) where
       go : (o : Option ℕ) → first_by (firing_at chart enabled) (ancestors chart z) ≡ o → bit_after chart z (is_in z c) o ≡ (list_any enters F || (is_in z c && not (list_any leaves F)))
       go None e =
           let left : list_any leaves F ≡ false = not_true (list_any leaves F) (λ h.
-              let w = any_mem leaves F h in
-              let f = fired_fire chart ok enabled c conf w.0 w.1 in
-              first_none_of (firing_at chart enabled) (ancestors chart z) e (scope chart w.0) w.0 (among_mem (ancestors chart z) (scope chart w.0) w.2) (fires_firing w.0 f.0 f.1)) in
+          let w = any_mem leaves F h in
+          let f = fired_fire chart ok enabled c conf w.0 w.1 in
+          first_none_of (firing_at chart enabled) (ancestors chart z) e (scope chart w.0) w.0 (among_mem (ancestors chart z) (scope chart w.0) w.2) (fires_firing w.0 f.0 f.1)) in
           let entered : list_any enters F ≡ false = not_true (list_any enters F) (λ h.
-              let w = any_mem enters F h in
-              let f = fired_fire chart ok enabled c conf w.0 w.1 in
-              true≢false (sym (mem_any leaves w.0 F w.1 (entry_below chart ok w.0 z f.0 w.2)) ∙ left)) in
+          let w = any_mem enters F h in
+          let f = fired_fire chart ok enabled c conf w.0 w.1 in
+          true≢false (sym (mem_any leaves w.0 F w.1 (entry_below chart ok w.0 z f.0 w.2)) ∙ left)) in
           stays (list_any enters F) (is_in z c) (list_any leaves F) entered left
       go (Some t) e =
           let w = first_found (firing_at chart enabled) (ancestors chart z) t e in
@@ -182,9 +182,9 @@ module _ (chart : Chart) (ok : IsChart chart) (enabled : ℕ → Bool) where
           let m = in_fired t f.0 f.2 in
           let left : list_any leaves F ≡ true = mem_any leaves t F m above in
           let entered : enters t ≡ list_any enters F = bool_iff (enters t) (list_any enters F)
-              (λ h. mem_any enters t F m h)
-              (λ h. let u = any_mem enters F h in
-              let g = fired_fire chart ok enabled c conf u.0 u.1 in
-              let same : u.0 ≡ t = fired_apart chart ok enabled c conf u.0 t z u.1 m (entry_below chart ok u.0 z g.0 u.2) above in
-              subst (λ (x : ℕ). enters x ≡ true) same u.2) in
+          (λ h. mem_any enters t F m h)
+          (λ h. let u = any_mem enters F h in
+          let g = fired_fire chart ok enabled c conf u.0 u.1 in
+          let same : u.0 ≡ t = fired_apart chart ok enabled c conf u.0 t z u.1 m (entry_below chart ok u.0 z g.0 u.2) above in
+          subst (λ (x : ℕ). enters x ≡ true) same u.2) in
           entered ∙ absorbed (list_any enters F) (is_in z c) (list_any leaves F) left

@@ -3,3 +3,5 @@ pub mod Firing
 pub mod Choosing
 pub mod Quiet
 pub mod Passing
+pub mod Admits
+pub mod Same

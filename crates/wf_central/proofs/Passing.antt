@@ -19,7 +19,7 @@ use Rattle.wf_semantics.specs.Flat.{HaveActiveSources}
 use Rattle.wf_semantics.specs.Snapshot.{is_active, has_event, has_guard, is_ready, is_enabled}
 use Rattle.wf_semantics.specs.Run.{CentralState, snapshot_of, is_happening}
 use Rattle.wf_semantics.proofs.Bools.{Mem, any_agree, any_map}
-use Rattle.wf_semantics.proofs.Lists.{mem_among, among_mem, filter_agree}
+use Rattle.wf_semantics.proofs.Lists.{mem_among, filter_agree, find_some}
 use Rattle.wf_semantics.proofs.Children.{item_at, lt_or_ge}
 use Rattle.wf_semantics.proofs.Facts.{IsChart, chart_of}
 use Rattle.wf_semantics.proofs.Places.{above_low}
@@ -31,7 +31,7 @@ use Rattle.wf_scopes.proofs.Rows.{row_get, row_agree, row_len}
 use Rattle.wf_central.specs.Kept.{bit}
 use Rattle.wf_central.specs.Passes.{trans_id, comes, is_ready_by, ready_by, at, chosen_by, firing_by, is_number, fired_by, or_else, first_ids, bit_by, moved_by}
 use Rattle.wf_central.proofs.Quiet.{no_guard}
-use Rattle.wf_central.proofs.Firing.{firing_at, first_by, or_other, is_this, bit_after, firing_fires, fired_list, bit_moves}
+use Rattle.wf_central.proofs.Firing.{firing_at, first_by, or_other, is_this, bit_after, fired_list, bit_moves}
 
 abbrev ids : Option ℕ → Option TransId
 ids o = option_map trans_id o
@@ -73,6 +73,32 @@ cond_same : (b : Bool) (o : Option ℕ) → cond b None (ids o) ≡ ids (cond b 
 cond_same true o = refl
 cond_same false o = refl
 
+-- what fires is a transition of the chart
+pub firing_known : (chart : Chart) (ready : List Bool) (chosen firing : List (Option TransId)) → chosen ≡ map (chosen_by chart ready) (all_states chart)
+    → firing ≡ map (firing_by chart chosen) (all_states chart) → (s : ℕ) → IfSome (at firing s) (λ t. t.0 < length chart.transitions)
+firing_known chart ready chosen firing made_chosen made_firing s = elim (lt_or_ge s (length chart.states)) [
+  | inl lt ↦ unheld (list_any (λ a. is_some (at chosen a)) (ancestors chart s)) (at chosen s) (at firing s) (row_entry (firing_by chart chosen) (length chart.states) s firing made_firing lt)
+      (found (find (λ t. bit ready t && (scope chart t == s)) (all_transitions chart)) refl (at chosen s) (row_entry (chosen_by chart ready) (length chart.states) s chosen made_chosen lt))
+  | inr ge ↦ none (at firing s) (ap (λ (o : Option (Option TransId)). unwrap_or o None) (past_end firing s (omega (arith, row_len (firing_by chart chosen) (length chart.states) firing made_firing))))
+]
+  where
+    none : (o : Option TransId) → o ≡ None → IfSome o (λ t. t.0 < length chart.transitions)
+    none None e = tt
+    none (Some t) e = cc
+
+    unheld : (b : Bool) (o r : Option TransId) → r ≡ cond b None o → IfSome o (λ t. t.0 < length chart.transitions) → IfSome r (λ t. t.0 < length chart.transitions)
+    unheld b o None e h = tt
+    unheld true o (Some t) e h = cc
+    unheld false o (Some t) e h = Rattle.std.proofs.Common.subst (λ (x : Option TransId). IfSome x (λ t. t.0 < length chart.transitions)) (sym e) h
+
+    found : (f : Option ℕ) → find (λ t. bit ready t && (scope chart t == s)) (all_transitions chart) ≡ f → (o : Option TransId) → o ≡ ids f → IfSome o (λ t. t.0 < length chart.transitions)
+    found f q None e = tt
+    found None q (Some t) e = cc
+    found (Some u) q (Some t) e =
+        let same : Some t ≡ Some (trans_id u) = e in
+        let at_u : t ≡ trans_id u = cc in
+        omega (arith, ap (λ (x : TransId). x.0) at_u, transition_mem chart u (find_some (λ t. bit ready t && (scope chart t == s)) (all_transitions chart) u q).0)
+
 module _ (chart : Chart) (accepted : IsAccepted chart) (plain : is_plain chart ≡ true) (c : CentralState) (conf : IsConfiguration chart c.configuration) (quiet : c.raised ≡ [])
     (active : List Bool) (entries : List Entry) (shown : active ≡ map (λ z. is_in z c.configuration) (all_states chart)) where
   abbrev enabled : ℕ → Bool
@@ -108,7 +134,7 @@ module _ (chart : Chart) (accepted : IsAccepted chart) (plain : is_plain chart �
       let from : source chart t ≡ w.0.source.0 = ap (λ (o : Option Transition). unwrap_or (option_map (λ trans. trans.source.0) o) 0) w.1 in
       ap (λ (o : Option Transition). unwrap_or (option_map (is_ready_by active entries) o) false) w.1
       ∙ ap₂ (λ (a b : Bool). a && b) (active_as w.0.source.0 (omega (arith, (ok.sources t lt).1, from))) (comes_as w.0.event ∙ and_true (has_event (snapshot_of chart c entries) w.0.event)
-        ∙ ap (λ (g : Option Expr). has_event (snapshot_of chart c entries) w.0.event && has_guard (snapshot_of chart c entries) g) (sym (no_guard chart plain t w.0 w.1)))
+      ∙ ap (λ (g : Option Expr). has_event (snapshot_of chart c entries) w.0.event && has_guard (snapshot_of chart c entries) g) (sym (no_guard chart plain t w.0 w.1)))
       ∙ sym (ap (λ (o : Option Transition). unwrap_or (option_map (is_ready (snapshot_of chart c entries)) o) false) w.1)
 
   module _ (ready : List Bool) (chosen firing : List (Option TransId)) (made_ready : ready ≡ map (ready_by chart active entries) (all_transitions chart))
@@ -117,37 +143,18 @@ module _ (chart : Chart) (accepted : IsAccepted chart) (plain : is_plain chart �
     chosen_as s lt =
         row_entry (chosen_by chart ready) (length chart.states) s chosen made_chosen lt
         ∙ ap ids (find_agree (λ t. bit ready t && (scope chart t == s)) (λ t. enabled t && (scope chart t == s)) (all_transitions chart)
-          (λ t m. let tl = transition_mem chart t m in
-          ap (λ (b : Bool). b && (scope chart t == s)) (row_bit (ready_by chart active entries) (length chart.transitions) t ready made_ready tl ∙ ready_as t tl)))
+        (λ t m. let tl = transition_mem chart t m in
+        ap (λ (b : Bool). b && (scope chart t == s)) (row_bit (ready_by chart active entries) (length chart.transitions) t ready made_ready tl ∙ ready_as t tl)))
 
     firing_as : (s : ℕ) → s < length chart.states → at firing s ≡ ids (firing_at chart enabled s)
     firing_as s lt =
         row_entry (firing_by chart chosen) (length chart.states) s firing made_firing lt
         ∙ ap₂ (λ (b : Bool) (o : Option TransId). cond b None o)
-          (any_agree (λ a. is_some (at chosen a)) (λ a. is_some (first_of_scope chart enabled a)) (ancestors chart s)
-          (λ a m. let low = above_low chart ok a s (mem_among (ancestors chart s) a m) in
-          ap is_some (chosen_as a (omega arith)) ∙ some_same (first_of_scope chart enabled a)))
-          (chosen_as s lt)
+        (any_agree (λ a. is_some (at chosen a)) (λ a. is_some (first_of_scope chart enabled a)) (ancestors chart s)
+        (λ a m. let low = above_low chart ok a s (mem_among (ancestors chart s) a m) in
+        ap is_some (chosen_as a (omega arith)) ∙ some_same (first_of_scope chart enabled a)))
+        (chosen_as s lt)
         ∙ cond_same (list_any (λ a. is_some (first_of_scope chart enabled a)) (ancestors chart s)) (first_of_scope chart enabled s)
-
-    -- what fires is a transition of the chart
-    pub firing_known : (s : ℕ) → IfSome (at firing s) (λ t. t.0 < length chart.transitions)
-    firing_known s = elim (lt_or_ge s (length chart.states)) [
-      | inl lt ↦ by_number (at firing s) (firing_at chart enabled s) refl (firing_as s lt)
-      | inr ge ↦ by_none (at firing s) (ap (λ (o : Option (Option TransId)). unwrap_or o None) (past_end firing s (omega (arith, row_len (firing_by chart chosen) (length chart.states) firing made_firing))))
-    ]
-      where
-        by_none : (o : Option TransId) → o ≡ None → IfSome o (λ t. t.0 < length chart.transitions)
-        by_none None e = tt
-        by_none (Some t) e = cc
-
-        by_number : (o : Option TransId) (n : Option ℕ) → firing_at chart enabled s ≡ n → o ≡ ids n → IfSome o (λ t. t.0 < length chart.transitions)
-        by_number None n f e = tt
-        by_number (Some t) None f e = cc
-        by_number (Some t) (Some u) f e =
-            let same : Some t ≡ Some (trans_id u) = e in
-            let at_u : t ≡ trans_id u = cc in
-            omega (arith, ap (λ (x : TransId). x.0) at_u, (firing_fires chart ok enabled s u f).0)
 
     fired_as : (t : ℕ) → t < length chart.transitions → fired_by chart firing t ≡ is_this t (firing_at chart enabled (scope chart t))
     fired_as t lt = ap (is_number t) (firing_as (scope chart t) (scope_in t lt)) ∙ is_same t (firing_at chart enabled (scope chart t))

@@ -1,5 +1,5 @@
 -- A plain chart has no variables, no items, and raises nothing.
-use Rattle.std.proofs.Common.{◌≡◌, ℕ, suc, ◌+◌, ◌==◌, ◌&&◌, Bool, true, false, List, [], ◌∷◌, ◌++◌, length, map, filter, Option, Some, None, is_none, unwrap_or, refl, sym, ◌∙◌, ap, subst, arith, IsTrue, eqb-true, true≢false}
+use Rattle.std.proofs.Common.{◌≡◌, ℕ, suc, ◌+◌, ◌==◌, ◌&&◌, ◌||◌, cond, Bool, true, false, List, [], ◌∷◌, ◌++◌, length, map, filter, Option, Some, None, is_none, unwrap_or, refl, sym, ◌∙◌, ap, subst, arith, IsTrue, eqb-true, true≢false}
 use Rattle.std.specs.List.{list_all, list_any, range_with_len, slice_get, flat_map}
 use Rattle.std.specs.Option.{option_map}
 use Rattle.wf_model.specs.declared.ids.ActId.{ActId}
@@ -18,7 +18,7 @@ use Rattle.wf_model.specs.declared.outer.Entry.{Entry}
 use Rattle.wf_model.specs.declared.update.StartAt.{StartAt}
 use Rattle.wf_model.specs.Plain.{is_plain, is_plain_transition}
 use Rattle.wf_semantics.specs.Snapshot.{Snapshot}
-use Rattle.wf_semantics.specs.Effects.{actions_of, after_outputs, after_outer, after_entries, after_fired, raises, raised_by, starts_from, starts_of}
+use Rattle.wf_semantics.specs.Effects.{actions_of, after_outputs, after_outer, after_entries, after_actions, after_fired, action_raises, raises, raised_by, starts_from, starts_of}
 use Rattle.wf_semantics.specs.Items.{Item, Completion, close_all}
 use Rattle.wf_semantics.specs.Run.{new_items, numbered}
 use Rattle.wf_semantics.proofs.Bools.{and_both}
@@ -69,18 +69,18 @@ module _ (chart : Chart) (plain : is_plain chart ≡ true) where
 
   pub fired_none : (snap : Snapshot) (ts : List ℕ) → after_fired chart snap ts [] ≡ []
   fired_none snap [] = refl
-  fired_none snap (t ∷ ts) = ap (λ (l : List Action). after_fired chart snap ts (Rattle.wf_semantics.specs.Effects.after_actions snap l [])) (no_actions t) ∙ fired_none snap ts
+  fired_none snap (t ∷ ts) = ap (λ (l : List Action). after_fired chart snap ts (after_actions snap l [])) (no_actions t) ∙ fired_none snap ts
 
   -- no event is raised
   none_raise : (snap : Snapshot) (e : ℕ) (ts : List ℕ) → list_any (raises chart snap e) ts ≡ false
   none_raise snap e [] = refl
   none_raise snap e (t ∷ ts) =
-      ap (λ (l : List Action). Rattle.std.specs.Bool.◌||◌ (list_any (Rattle.wf_semantics.specs.Effects.action_raises snap e) l) (list_any (raises chart snap e) ts)) (no_actions t)
+      ap (λ (l : List Action). list_any (action_raises snap e) l || list_any (raises chart snap e) ts) (no_actions t)
       ∙ none_raise snap e ts
 
   filter_none : (p : ℕ → Bool) → ((n : ℕ) → p n ≡ false) → (xs : List ℕ) → filter p xs ≡ []
   filter_none p h [] = refl
-  filter_none p h (x ∷ xs) = ap (λ (b : Bool). Rattle.std.proofs.Common.cond b (x ∷ filter p xs) (filter p xs)) (h x) ∙ filter_none p h xs
+  filter_none p h (x ∷ xs) = ap (λ (b : Bool). cond b (x ∷ filter p xs) (filter p xs)) (h x) ∙ filter_none p h xs
 
   pub raised_none : (snap : Snapshot) (ts : List ℕ) → raised_by chart snap ts ≡ []
   raised_none snap ts = ap (map (λ e. record { 0 = e })) (filter_none (λ e. list_any (raises chart snap e) ts) (λ e. none_raise snap e ts) (range_with_len 0 (length chart.events)))

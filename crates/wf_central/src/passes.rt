@@ -1,5 +1,8 @@
 //! The passes of a step: which transitions are ready, which are chosen, which fire, and which states are in then.
-ghost use Rattle.std.specs.Prelude.{◌≡◌, ◌<◌, ℕ, None, map, filter, length, is_some, IfOk, IfSome};
+ghost use Rattle.std.specs.Prelude.{◌≡◌, ◌<◌, ℕ, None, map, filter, length, is_some, IsTrue, IfOk, IfSome};
+ghost use Rattle.wf_model.specs.Plain.{is_plain};
+ghost use Rattle.wf_semantics.specs.Run.{CentralState};
+ghost use Rattle.wf_central.specs.Made.{IsShown, MakesStep};
 ghost use Rattle.std.specs.List.{list_any};
 ghost use Rattle.wf_model.specs.Accepted.{IsAccepted};
 ghost use Rattle.wf_model.specs.Tree.{all_states, all_transitions, ancestors};
@@ -116,7 +119,12 @@ fn is_held(chosen: &[Option<TransId>], above: &[StateId]) -> bool
     above.iter().any(|a| entry_at(chosen, *a).is_some())
 }
 
-fn firing_at(chart: &Chart, scopes: &Scopes, chosen: &[Option<TransId>], s: StateId) -> Option<TransId>
+fn firing_at(
+    chart: &Chart,
+    scopes: &Scopes,
+    chosen: &[Option<TransId>],
+    s: StateId,
+) -> Option<TransId>
     requires of { scopes.now ≡ tables_of chart.now }
     requires in_range { s.0 < length chart.now.states }
     ensures { result ≡ firing_by chart.now chosen.now s.0 }
@@ -226,4 +234,32 @@ pub fn moved(
         bits.push(is_in_then(chart, scopes, active, firing, StateId(z as u32)))?;
     }
     Ok(bits)
+}
+
+/// What a step makes: the transitions that fired, ascending, and for each state whether it is in then.
+#[derive(Debug, Drop)]
+pub struct AfterStep {
+    pub fired: List<TransId>,
+    pub active: List<bool>,
+}
+
+/// All passes of a step of a plain chart, in which these outers come.
+pub fn pass_all(
+    alloc: Global,
+    chart: &Chart,
+    scopes: &Scopes,
+    active: &[bool],
+    outer: &[Entry],
+) -> Result<AfterStep, NoMemory>
+    requires of { scopes.now ≡ tables_of chart.now }
+    requires accepted { IsAccepted chart.now }
+    requires plain { IsTrue (is_plain chart.now) }
+    ensures { (c : CentralState) → IsShown chart.now c active.now → IfOk result (MakesStep chart.now c outer.now) }
+{
+    let ready = ready(alloc, chart, active, outer)?;
+    let chosen = chosen(alloc, chart, scopes, ready.as_slice())?;
+    let firing = firing(alloc, chart, scopes, chosen.as_slice())?;
+    let fired = fired(alloc, chart, scopes, firing.as_slice())?;
+    let active = moved(alloc, chart, scopes, active, firing.as_slice())?;
+    Ok(AfterStep { fired, active })
 }

@@ -114,22 +114,17 @@ impl CentralState {
         ensures taken { OnOk result (self.new.taken ≡ self.old.taken + 1) }
         ensures err { OnErr result (self.new ≡ self.old) }
     {
-        let chart = checked.chart();
-        let ready = passes::ready(alloc, chart, self.active.as_slice(), outer)?;
-        let chosen = passes::chosen(alloc, chart, &self.scopes, ready.as_slice())?;
-        let firing = passes::firing(alloc, chart, &self.scopes, chosen.as_slice())?;
-        let fired = passes::fired(alloc, chart, &self.scopes, firing.as_slice())?;
-        let active = passes::moved(
+        let passed = passes::pass_all(
             alloc,
-            chart,
+            checked.chart(),
             &self.scopes,
             self.active.as_slice(),
-            firing.as_slice(),
+            outer,
         )?;
-        self.active = active;
+        self.active = passed.active;
         self.taken += 1;
         Ok(StepNotes {
-            fired,
+            fired: passed.fired,
             starts: List::new(alloc),
         })
     }

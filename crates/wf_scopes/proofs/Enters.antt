@@ -57,7 +57,7 @@ module _ (chart : Chart) (ok : IsAccepted chart) where
   entry_bit t z p lt up =
       tree_bit chart (chart_of chart ok) (child_towards chart (target chart t)) (towards_picks chart (chart_of chart ok) (target chart t)) (child_towards chart (target chart t) (scope chart t)) z
       ∙ ap₂ (λ (a b : Bool). a || b) (is_top t z p lt up)
-        (ap (λ o. option_map_or (λ q. is_in q (entry_tree chart t) && picked_by (kind chart q) (child_towards chart (target chart t) q) z) o false) up)
+      (ap (λ o. option_map_or (λ q. is_in q (entry_tree chart t) && picked_by (kind chart q) (child_towards chart (target chart t) q) z) o false) up)
       ∙ or_same (p == scope chart t) (is_in p (entry_tree chart t)) (picked_by (kind chart p) (child_towards chart (target chart t) p) z)
 
   -- a state without parent is not entered

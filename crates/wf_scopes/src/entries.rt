@@ -21,12 +21,7 @@ struct Way {
 }
 
 // Whether state `z` is the target or above it.
-fn leads_to(
-    lineages: &[List<StateId>],
-    chart: &Chart,
-    z: StateId,
-    target: StateId,
-) -> bool
+fn leads_to(lineages: &[List<StateId>], chart: &Chart, z: StateId, target: StateId) -> bool
     requires of { lineages.now ≡ lineages_of chart.now }
     requires in_range { target.0 < length chart.now.states }
     ensures { result ≡ ((z.0 == target.0) || is_above chart.now z.0 target.0) }
@@ -116,9 +111,7 @@ fn is_entered(
     ensures { result ≡ is_in z.0 (entry_tree chart.now t.0) }
 {
     match parent_at(chart, z) {
-        Some(p) => {
-            is_from(way.scope, row, p) && is_picked(lineages, chart, way.target, p, z)
-        }
+        Some(p) => { is_from(way.scope, row, p) && is_picked(lineages, chart, way.target, p, z) }
         None => false,
     }
 }

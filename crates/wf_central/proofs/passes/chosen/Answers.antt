@@ -26,8 +26,13 @@ set-requires c =
     let lt : c.loop-t.t - 1 < length c.args.chart.now.transitions = omega arith in
     let is = c.scope.ensures c.args.chart.now c.requires.of lt in
     let above = (scope_facts c.args.chart.now ok (c.loop-t.t - 1) lt).2 in
-    omega (arith, row_len (chosen_from c.args.chart.now c.args.ready.now c.loop-t.t) (length c.args.chart.now.states) c.loop-t.table c.loop-t.invariant.rest,
-      above_low c.args.chart.now ok (scope c.args.chart.now (c.loop-t.t - 1)) _ above, (ok.sources (c.loop-t.t - 1) lt).1, is)
+    omega (
+      arith,
+      row_len (chosen_from c.args.chart.now c.args.ready.now c.loop-t.t) (length c.args.chart.now.states) c.loop-t.table c.loop-t.invariant.rest,
+      above_low c.args.chart.now ok (scope c.args.chart.now (c.loop-t.t - 1)) _ above,
+      (ok.sources (c.loop-t.t - 1) lt).1,
+      is,
+    )
 
 pub loop-t-preserved-then-is_set : goal.loop-t-preserved-then-is_set
 loop-t-preserved-then-is_set c = record {

@@ -12,7 +12,7 @@ loop-transition-preserved c =
     let item : c.transition-item.result ≡ get_or c.args.chart.now.transitions c.loop-transition.transition-index c.transition-item.result = search rules in
     c.in_ok-push.ensures.ok
     ∙ row_more (ready_by c.args.chart.now c.args.active.now c.args.outer.now) c.loop-transition.transition-index c.loop-transition.bits c.is_ready.result c.loop-transition.invariant
-      (c.is_ready.ensures ∙ ap (λ o. unwrap_or (option_map (is_ready_by c.args.active.now c.args.outer.now) o) false) (sym (trans_get c.args.chart.now c.loop-transition.transition-index c.transition-item.result within item)))
+    (c.is_ready.ensures ∙ ap (λ o. unwrap_or (option_map (is_ready_by c.args.active.now c.args.outer.now) o) false) (sym (trans_get c.args.chart.now c.loop-transition.transition-index c.transition-item.result within item)))
 
 pub returns : goal.returns
 returns c =

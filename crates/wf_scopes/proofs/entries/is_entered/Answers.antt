@@ -12,8 +12,11 @@ use Rattle.wf_scopes.proofs.entries.is_entered.Goals as goal
 pub is_from-requires : goal.is_from-requires
 is_from-requires c =
     let up : parent c.args.chart.now c.args.z.0 ≡ Some c.in-Some.p.0 = sym c.parent_at.ensures ∙ ap (option_map (λ (p : StateId). p.0)) c.in-Some.is in
-    omega (arith, child_high c.args.chart.now c.requires.accepted c.in-Some.p.0 c.args.z.0 up,
-      row_len (λ s. is_in s (entry_tree c.args.chart.now c.args.t.0)) c.args.z.0 c.args.row.now c.requires.before)
+    omega (
+      arith,
+      child_high c.args.chart.now c.requires.accepted c.in-Some.p.0 c.args.z.0 up,
+      row_len (λ s. is_in s (entry_tree c.args.chart.now c.args.t.0)) c.args.z.0 c.args.row.now c.requires.before,
+    )
 
 pub is_picked-requires-clause-later : goal.is_picked-requires-clause-later
 is_picked-requires-clause-later c =
@@ -32,7 +35,7 @@ pub returns-else-is_from : goal.returns-else-is_from
 returns-else-is_from c =
     c.if-is_from.false
     ∙ entered_by c.args.chart.now c.requires.accepted c.args.t.0 c.args.z.0 c.in-Some.p.0 c.args.way.scope.0 c.args.way.target.0 c.args.row.now false _ c.requires.in_range
-      (sym c.parent_at.ensures ∙ ap (option_map (λ (p : StateId). p.0)) c.in-Some.is) c.requires.scope c.requires.target c.requires.before (sym c.if-is_from.false ∙ c.is_from.ensures) refl
+    (sym c.parent_at.ensures ∙ ap (option_map (λ (p : StateId). p.0)) c.in-Some.is) c.requires.scope c.requires.target c.requires.before (sym c.if-is_from.false ∙ c.is_from.ensures) refl
 
 pub returns-in-None : goal.returns-in-None
 returns-in-None c =

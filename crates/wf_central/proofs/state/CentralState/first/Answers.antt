@@ -1,17 +1,21 @@
-use Rattle.std.proofs.Common.{rules, ◌≡◌, ◌+◌, ◌<◌, length, IsTrue, IfOk, OnOk, OnErr, ℕ, ◌-◌, ◌*◌, ◌≤◌, ◌/◌, ◌%◌, Bool, true, false, nat_eq, nat_lt, List, [], ◌∷◌, ◌++◌, slice_index_or, slice_set, bit_and, bit_or, Fits, w8, w32, w64, Bor, MutBor}
-use Rattle.wf_model.specs.Plain.{is_plain}
-use Rattle.wf_model.specs.declared.chart.Chart.{Chart as AnyChart}
-use Rattle.wf_model.specs.declared.limits.TheConstants.{MAX_STEPS}
+use Rattle.std.proofs.Common.{◌≡◌, map, ap, ◌∙◌, Bool, List}
+use Rattle.wf_model.specs.declared.chart.Chart.{Chart}
+use Rattle.wf_model.specs.Accepted.{IsAccepted}
+use Rattle.wf_model.specs.Tree.{all_states}
 use Rattle.wf_semantics.specs.Configuration.{is_in}
-use Rattle.wf_semantics.specs.Run.{first_state, next_state}
-use Rattle.wf_semantics.specs.Admission.{may_be_admitted, is_event_at}
-use Rattle.wf_central.specs.Kept.{central_of, IsOf, notes_of}
+use Rattle.wf_semantics.specs.Entry.{default_tree}
+use Rattle.wf_semantics.proofs.Facts.{chart_of}
+use Rattle.wf_semantics.proofs.Grown.{default_configuration}
+use Rattle.wf_central.proofs.Same.{first_is, keeps}
 use Rattle.wf_central.proofs.state.CentralState.first.Goals as goal
 
--- src/state.rt:38:5
 pub returns-clause-state : goal.returns-clause-state
-returns-clause-state c = ?
+returns-clause-state c =
+    first_is c.args.checked.now c.chart.ensures.accepted c.requires.plain c.in_ok-active.active c.new.result c.in_ok-scopes.scopes
+    (c.in_ok-active.ensures ∙ ap (λ (chart : Chart). map (λ z. is_in z (default_tree chart 0)) (all_states chart)) c.chart.ensures.same) c.new.ensures
 
--- src/state.rt:38:5
 pub returns-clause-of : goal.returns-clause-of
-returns-clause-of c = ?
+returns-clause-of c =
+    keeps c.args.checked.now c.chart.ensures.accepted c.requires.plain c.in_ok-active.active c.new.result 0 c.in_ok-scopes.scopes (default_tree c.args.checked.now 0)
+    (default_configuration c.args.checked.now (chart_of c.args.checked.now c.chart.ensures.accepted))
+    (c.in_ok-active.ensures ∙ ap (λ (chart : Chart). map (λ z. is_in z (default_tree chart 0)) (all_states chart)) c.chart.ensures.same) c.new.ensures c.in_ok-scopes.ensures

@@ -1,5 +1,5 @@
 -- What some small texts mean, by computation.
-use Rattle.std.proofs.Common.{◌≡◌, [], ◌∷◌, Some, None, Ok, Err, refl}
+use Rattle.std.proofs.Common.{◌≡◌, [], ◌∷◌, None, Ok, Err, refl}
 use lib.Chars.{codes}
 use Rattle.wf_model.specs.declared.chart.Kind.TheVariants.{Or}
 use Rattle.wf_model.specs.Names.{is_reserved}

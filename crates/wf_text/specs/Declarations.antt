@@ -1,5 +1,5 @@
 -- decl = unit NAME ; | event NAME [ at UNIT ] ;
-use Rattle.std.specs.Prelude.{ℕ, zero, suc, Bool, true, false, if◌then◌else◌, length, Option, Some, None, Ok}
+use Rattle.std.specs.Prelude.{ℕ, zero, suc, Bool, true, false, if◌then◌else◌, length, Option, Some, None}
 use Rattle.wf_model.specs.declared.ids.UnitId.{UnitId}
 use Rattle.wf_text.specs.declared.names.Declared.TheVariants as declared_as_a
 use Rattle.wf_text.specs.declared.piece.Piece.{Piece}

@@ -1,5 +1,5 @@
 -- What a rule reads from, and the steps that every rule is made of.
-use Rattle.std.specs.Prelude.{◌≡◌, ◌≢◌, ℕ, ◌+◌, ◌<◌, ◌≤◌, Bool, true, false, if◌then◌else◌, nat_le, List, [], ◌∷◌, ◌++◌, length, take as take_first, drop, slice_range, Option, Some, None, is_none, Result, Ok, Err}
+use Rattle.std.specs.Prelude.{◌≡◌, ◌≢◌, ℕ, ◌+◌, ◌<◌, ◌≤◌, Bool, false, if◌then◌else◌, nat_le, List, [], ◌∷◌, ◌++◌, length, take as take_first, drop, slice_range, Option, Some, None, Result, Ok, Err}
 use lib.Chars.{codes}
 use Rattle.wf_model.specs.declared.limits.TheConstants.{MAX_NAME}
 use Rattle.wf_model.specs.declared.ids.UnitId.{UnitId}
@@ -143,7 +143,7 @@ expect wanted = λ i. if sees wanted i then Ok (tt, next i) else syntax i
 
 -- ---- names
 
--- the next token has to be a name of at most 32 bytes
+-- the next token has to be a name of at most MAX_NAME bytes
 unfoldable pub name_ahead : Parser (Unit {0})
 name_ahead = λ i. if sees pieces.Name i then (if nat_le (length (spelling i)) MAX_NAME then Ok (tt, i) else oversize i) else syntax i
 

@@ -9,7 +9,7 @@ use Rattle.wf_text.specs.declared.fault.TextFault.{TextFault}
 use Rattle.wf_text.specs.declared.fault.TextFault.TheVariants.{NoMemory}
 use Rattle.wf_text.specs.declared.piece.Piece.TheVariants as pieces
 use Rattle.wf_text.specs.Fault.{fault_of}
-use Rattle.wf_text.specs.Input.{Input, Outcome, Parser, ◌>>=◌, ◌>>◌, pure, syntax, here, start_of, expect, name}
+use Rattle.wf_text.specs.Input.{Input, Outcome, Parser, ◌>>=◌, ◌>>◌, pure, syntax, start_of, expect, name}
 use Rattle.wf_text.specs.Declarations.{declarations}
 use Rattle.wf_text.specs.States.{root}
 use Rattle.wf_text.specs.Transitions.{transitions}

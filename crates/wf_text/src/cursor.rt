@@ -120,12 +120,14 @@ impl<'a> Cursor<'a> {
         }
     }
 
+    /// The fault that no rule goes on with the next token.
     pub fn syntax(&self) -> TextFault
         ensures { result ≡ TextFault.Syntax self.now.at }
     {
         TextFault::Syntax { at: self.at }
     }
 
+    /// The fault that the next token is a name too long or a brace too deep.
     pub fn oversize(&self) -> TextFault
         ensures { result ≡ TextFault.Oversize self.now.at }
     {
@@ -310,6 +312,7 @@ impl<'a> Cursor<'a> {
         StateId(self.states.len() as u32)
     }
 
+    /// Adds a unit, for which a token was taken. In constant time on average.
     #[tactic(auto, unfolding(crate::specs::Input::with_unit))]
     pub fn add_unit(&mut self, name: Name) -> Result<(), NoMemory>
         requires { HasRoom self.old }
@@ -318,6 +321,7 @@ impl<'a> Cursor<'a> {
         self.units.push(name)
     }
 
+    /// Adds an event, for which a token was taken. In constant time on average.
     #[tactic(auto, unfolding(crate::specs::Input::with_event))]
     pub fn add_event(&mut self, event: Event) -> Result<(), NoMemory>
         requires { HasRoom self.old }
@@ -326,6 +330,7 @@ impl<'a> Cursor<'a> {
         self.events.push(event)
     }
 
+    /// Adds a state, for which a token was taken. In constant time on average.
     #[tactic(auto, unfolding(crate::specs::Input::with_state))]
     pub fn add_state(&mut self, state: State) -> Result<(), NoMemory>
         requires { HasRoom self.old }

@@ -32,6 +32,7 @@ pub enum Piece {
     Text,
 }
 
+/// Whether the two are one piece.
 pub fn same_piece(piece: Piece, other: Piece) -> bool
     ensures value { result ≡ spec.same_piece piece other }
     ensures same { result ≡ true → piece ≡ other }

@@ -1,6 +1,5 @@
-use Rattle.std.proofs.Common.{◌≡◌, ℕ, List, Vec, None, map, refl, sym, ap, ◌∙◌, ◌∷◌, [], ◌++◌}
+use Rattle.std.proofs.Common.{ℕ, Vec, refl, ap, ◌∙◌, ◌∷◌, [], ◌++◌}
 use Rattle.std.specs.Str.{bytes_eq}
-use Rattle.std.specs.Cmp.Lexicographic.{pointwise}
 use Rattle.std.specs.declared.alloc.Global.{Global}
 use Rattle.wf_text.specs.Names.{declared_as}
 use Rattle.wf_text.proofs.Known.{shown-more}

@@ -16,18 +16,21 @@ IsBehind input rest =
     (front : List ℕ) × (front ++ rest ≡ input) × (before_divider true input ≡ front ++ before_divider true rest)
     × (behind_divider true input ≡ behind_divider true rest)
 
--- a line of one byte more
-size-more : (b : ℕ) (bytes : List ℕ) → (b == 10) ≡ false → size (b ∷ bytes) ≡ suc (size bytes)
-size-more b bytes goes_on =
-    let line : first_line (b ∷ bytes) ≡ b ∷ first_line bytes = take_while-cons (λ c. not (c == 10)) b bytes ∙ rw goes_on refl in
-    let longer : length (b ∷ first_line bytes) + 1 ≡ suc (length (first_line bytes) + 1) = omega arith in
-    ap (λ xs. length xs + 1) line ∙ longer
+-- a byte before a line
+pub first_line-more : (b : ℕ) (bytes : List ℕ) → (b == 10) ≡ false → first_line (b ∷ bytes) ≡ b ∷ first_line bytes
+first_line-more b bytes goes_on = take_while-cons (λ c. not (c == 10)) b bytes ∙ rw goes_on refl
 
--- the line of LF alone
-size-lf : (b : ℕ) (bytes : List ℕ) → (b == 10) ≡ true → size (b ∷ bytes) ≡ 1
-size-lf b bytes ends =
-    let line : first_line (b ∷ bytes) ≡ [] = take_while-cons (λ c. not (c == 10)) b bytes ∙ rw ends refl in
-    ap (λ xs. length xs + 1) line
+pub size-more : (b : ℕ) (bytes : List ℕ) → (b == 10) ≡ false → size (b ∷ bytes) ≡ suc (size bytes)
+size-more b bytes goes_on =
+    let longer : length (b ∷ first_line bytes) + 1 ≡ suc (length (first_line bytes) + 1) = omega arith in
+    ap (λ xs. length xs + 1) (first_line-more b bytes goes_on) ∙ longer
+
+-- LF alone
+pub first_line-lf : (b : ℕ) (bytes : List ℕ) → (b == 10) ≡ true → first_line (b ∷ bytes) ≡ []
+first_line-lf b bytes ends = take_while-cons (λ c. not (c == 10)) b bytes ∙ rw ends refl
+
+pub size-lf : (b : ℕ) (bytes : List ℕ) → (b == 10) ≡ true → size (b ∷ bytes) ≡ 1
+size-lf b bytes ends = ap (λ xs. length xs + 1) (first_line-lf b bytes ends)
 
 -- up to the next line no divider begins
 before_line : (bytes : List ℕ) → before_divider false bytes ≡ take (size bytes) bytes ++ before_divider true (behind_line bytes)

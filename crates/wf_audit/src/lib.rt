@@ -2,5 +2,10 @@
 #![tactic(auto)]
 
 mod lines;
+mod names;
+mod reply;
+mod script;
 
 pub use lines::{Division, divide};
+pub use reply::{Reply, append_reply};
+pub use script::{CentralLine, ScriptFault, read_central};

@@ -1,0 +1,14 @@
+-- How many units and events an accepted chart has.
+use Rattle.std.proofs.Common.{◌≤◌, length, arith}
+use Rattle.std.proofs.lemmas.Bool.Decides.{nat_tests}
+use Rattle.wf_model.specs.declared.limits.TheConstants.{MAX_UNITS, MAX_EVENTS}
+use Rattle.wf_model.specs.declared.chart.Chart.{Chart}
+use Rattle.wf_model.specs.Accepted.{IsAccepted, is_accepted, is_small}
+
+pub few_units : (chart : Chart) → IsAccepted chart → length chart.units ≤ MAX_UNITS
+unfolding is_accepted is_small
+few_units chart h = grind (arith, nat_tests)
+
+pub few_events : (chart : Chart) → IsAccepted chart → length chart.events ≤ MAX_EVENTS
+unfolding is_accepted is_small
+few_events chart h = grind (arith, nat_tests)

@@ -1,0 +1,5 @@
+pub mod Divided
+pub mod Few
+pub mod Noted
+pub mod Within
+pub mod Read

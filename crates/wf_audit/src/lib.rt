@@ -1,0 +1,11 @@
+//! What the central run of a chart takes and gives as text: the lines of an input, the lines of a script, the replies.
+#![tactic(auto)]
+
+mod lines;
+mod names;
+mod reply;
+mod script;
+
+pub use lines::{Division, divide};
+pub use reply::{Reply, append_reply};
+pub use script::{CentralLine, ScriptFault, read_central};

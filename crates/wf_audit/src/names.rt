@@ -1,0 +1,86 @@
+//! How the names of a script are found in a chart.
+ghost use Rattle.std.specs.Prelude.{◌≡◌, ℕ, ◌≤◌, List, Some, None, length, IfOk, OnOk, if◌then◌else◌};
+ghost use Rattle.std.specs.List.{position_from};
+ghost use Rattle.std.specs.Option.{option_or};
+ghost use Rattle.std.specs.Str.{bytes_eq};
+ghost use Rattle.wf_model.specs.Accepted.{IsAccepted};
+ghost use Rattle.wf_audit.specs.Names as spec;
+
+use std::alloc::Global;
+use std::collections::HashMap;
+use wf_model::limits::{MAX_EVENTS, MAX_UNITS};
+use wf_model::{Chart, Event, Name, NoMemory};
+
+/// The numbers of a chart's units and events, by their names.
+#[derive(Drop)]
+pub struct Names<'a> {
+    pub units: HashMap<&'a [u8], u32>,
+    pub events: HashMap<&'a [u8], u32>,
+}
+
+impl<'a> Names<'a> {
+    /// The names of this chart. Linear in their bytes on average.
+    #[tactic(auto, using(crate::proofs::Few::few_units, crate::proofs::Few::few_events))]
+    pub fn of(alloc: Global, chart: &'a Chart) -> Result<Names<'a>, NoMemory>
+        requires { IsAccepted chart.now }
+        ensures units { IfOk result (λ names. spec.found_in names.units ≡ spec.unit_named chart.now) }
+        ensures events { IfOk result (λ names. spec.found_in names.events ≡ spec.event_named chart.now) }
+    {
+        let units = unit_numbers(alloc, chart.units.as_slice())?;
+        let events = event_numbers(alloc, chart.events.as_slice())?;
+        Ok(Names { units, events })
+    }
+
+    /// The number of the unit of this name.
+    pub fn unit(&self, name: &[u8]) -> Option<u32>
+        ensures { result ≡ spec.found_in self.now.units name.now }
+    {
+        self.units.get(name).copied()
+    }
+
+    /// The number of the event of this name.
+    pub fn event(&self, name: &[u8]) -> Option<u32>
+        ensures { result ≡ spec.found_in self.now.events name.now }
+    {
+        self.events.get(name).copied()
+    }
+}
+
+// Notes a name's number, if the name is new.
+fn note<'a>(
+    numbers: &mut HashMap<&'a [u8], u32>,
+    name: &'a [u8],
+    number: u32,
+) -> Result<(), NoMemory>
+    ensures { OnOk result ((word : List ℕ) → spec.found_in numbers.new word ≡ option_or (spec.found_in numbers.old word) (if bytes_eq word name.now then Some number else None)) }
+{
+    if !numbers.contains_key(name) {
+        numbers.insert(name, number)?;
+    }
+    Ok(())
+}
+
+fn unit_numbers<'a>(alloc: Global, units: &'a [Name]) -> Result<HashMap<&'a [u8], u32>, NoMemory>
+    requires { length units.now ≤ MAX_UNITS }
+    ensures { IfOk result (λ numbers. spec.found_in numbers ≡ (λ name. position_from (λ unit. bytes_eq name unit) 0 units.now)) }
+{
+    let mut numbers = HashMap::new(alloc);
+    for (at, unit) in units.iter().enumerate() {
+        note(&mut numbers, unit.as_bytes(), at as u32)?;
+    }
+    Ok(numbers)
+}
+
+fn event_numbers<'a>(
+    alloc: Global,
+    events: &'a [Event],
+) -> Result<HashMap<&'a [u8], u32>, NoMemory>
+    requires { length events.now ≤ MAX_EVENTS }
+    ensures { IfOk result (λ numbers. spec.found_in numbers ≡ (λ name. position_from (λ event. bytes_eq name event.name) 0 events.now)) }
+{
+    let mut numbers = HashMap::new(alloc);
+    for (at, event) in events.iter().enumerate() {
+        note(&mut numbers, event.name.as_bytes(), at as u32)?;
+    }
+    Ok(numbers)
+}

@@ -1,0 +1,245 @@
+//! Replies, and their text.
+ghost use Rattle.std.specs.Prelude.{◌≡◌, ◌++◌, OnOk, OnErr};
+ghost use Rattle.std.specs.Fmt.{decimal, signed_decimal};
+ghost use Rattle.wf_audit.specs.Replies as spec;
+
+use itoa::Buffer;
+use std::alloc::Global;
+use wf_central::StepNotes;
+use wf_model::{
+    ActId, Bytes, Chart, EventId, List, NoMemory, OuterFault, Output, StateId, TransId, Val, VarId,
+};
+
+/// The reply to a line of a script.
+#[derive(Debug, Drop)]
+pub enum Reply {
+    /// The outer was admitted.
+    Ok,
+    /// The outer was refused.
+    Refused(OuterFault),
+    /// The step with this number was taken.
+    Stepped { step: u32, notes: StepNotes },
+    /// The sight of the central run: how many steps were taken, the states that are in, the variables with their
+    /// values, the events raised in the last step.
+    Central {
+        taken: u32,
+        states: List<StateId>,
+        vars: List<Output>,
+        raised: List<EventId>,
+    },
+}
+
+fn state_name(chart: &Chart, state: StateId) -> &[u8]
+    ensures { result.now ≡ spec.state_name chart.now state }
+{
+    match chart.states.get(state.0 as usize) {
+        Some(state) => state.name.as_bytes(),
+        None => &[],
+    }
+}
+
+fn var_name(chart: &Chart, var: VarId) -> &[u8]
+    ensures { result.now ≡ spec.var_name chart.now var }
+{
+    match chart.vars.get(var.0 as usize) {
+        Some(var) => var.name.as_bytes(),
+        None => &[],
+    }
+}
+
+fn event_name(chart: &Chart, event: EventId) -> &[u8]
+    ensures { result.now ≡ spec.event_name chart.now event }
+{
+    match chart.events.get(event.0 as usize) {
+        Some(event) => event.name.as_bytes(),
+        None => &[],
+    }
+}
+
+fn act_name(chart: &Chart, act: ActId) -> &[u8]
+    ensures { result.now ≡ spec.act_name chart.now act }
+{
+    match chart.acts.get(act.0 as usize) {
+        Some(act) => act.name.as_bytes(),
+        None => &[],
+    }
+}
+
+fn append_number(text: &mut Bytes, number: u32) -> Result<(), NoMemory>
+    ensures { OnOk result (text.new ≡ text.old ++ decimal number) }
+{
+    let mut digits = Buffer::new();
+    text.append(digits.format(number).as_bytes())
+}
+
+fn append_int(text: &mut Bytes, number: i64) -> Result<(), NoMemory>
+    ensures { OnOk result (text.new ≡ text.old ++ signed_decimal number) }
+{
+    let mut digits = Buffer::new();
+    text.append(digits.format(number).as_bytes())
+}
+
+fn append_value(text: &mut Bytes, value: &Val) -> Result<(), NoMemory>
+    ensures { OnOk result (text.new ≡ text.old ++ spec.value_text value.now) }
+{
+    match value {
+        Val::Bool(true) => text.append(b"true"),
+        Val::Bool(false) => text.append(b"false"),
+        Val::Int(number) => append_int(text, *number),
+        Val::Text(chars) => {
+            text.push(b'"')?;
+            text.append(chars.as_slice())?;
+            text.push(b'"')
+        }
+    }
+}
+
+fn append_fired(text: &mut Bytes, fired: &[TransId]) -> Result<(), NoMemory>
+    ensures { OnOk result (text.new ≡ text.old ++ spec.fired_text fired.now) }
+{
+    for transition in fired {
+        text.append(b" t")?;
+        append_number(text, transition.0)?;
+    }
+    Ok(())
+}
+
+fn append_starts(
+    text: &mut Bytes,
+    chart: &Chart,
+    starts: &[(ActId, u32)],
+) -> Result<(), NoMemory>
+    ensures { OnOk result (text.new ≡ text.old ++ spec.starts_text chart.now starts.now) }
+{
+    for (act, item) in starts {
+        text.append(b" ")?;
+        text.append(act_name(chart, *act))?;
+        text.append(b"#")?;
+        append_number(text, *item)?;
+    }
+    Ok(())
+}
+
+fn append_states(text: &mut Bytes, chart: &Chart, states: &[StateId]) -> Result<(), NoMemory>
+    ensures { OnOk result (text.new ≡ text.old ++ spec.states_text chart.now states.now) }
+{
+    for state in states {
+        text.append(b" ")?;
+        text.append(state_name(chart, *state))?;
+    }
+    Ok(())
+}
+
+fn append_vars(text: &mut Bytes, chart: &Chart, vars: &[Output]) -> Result<(), NoMemory>
+    ensures { OnOk result (text.new ≡ text.old ++ spec.vars_text chart.now vars.now) }
+{
+    for variable in vars {
+        text.append(b" ")?;
+        text.append(var_name(chart, variable.var))?;
+        text.append(b"=")?;
+        append_value(text, &variable.val)?;
+    }
+    Ok(())
+}
+
+fn append_raised(text: &mut Bytes, chart: &Chart, raised: &[EventId]) -> Result<(), NoMemory>
+    ensures { OnOk result (text.new ≡ text.old ++ spec.raised_text chart.now raised.now) }
+{
+    for event in raised {
+        text.append(b" ")?;
+        text.append(event_name(chart, *event))?;
+    }
+    Ok(())
+}
+
+fn append_fault(text: &mut Bytes, fault: OuterFault) -> Result<(), NoMemory>
+    ensures { OnOk result (text.new ≡ text.old ++ spec.fault_text fault) }
+{
+    match fault {
+        OuterFault::WrongUnit => text.append(b"wrong unit"),
+        OuterFault::NoItem => text.append(b"no item"),
+        OuterFault::AlreadyDone => text.append(b"already done"),
+        OuterFault::WrongOutput => text.append(b"wrong output"),
+    }
+}
+
+fn append_step(
+    text: &mut Bytes,
+    chart: &Chart,
+    step: u32,
+    notes: &StepNotes,
+) -> Result<(), NoMemory>
+    ensures { OnOk result (text.new ≡ text.old ++ spec.step_text chart.now step notes.now) }
+{
+    text.append(b"step ")?;
+    append_number(text, step)?;
+    text.append(b" fired")?;
+    append_fired(text, notes.fired.as_slice())?;
+    text.append(b" starts")?;
+    append_starts(text, chart, notes.starts.as_slice())
+}
+
+fn append_sight(
+    text: &mut Bytes,
+    chart: &Chart,
+    taken: u32,
+    states: &[StateId],
+    vars: &[Output],
+    raised: &[EventId],
+) -> Result<(), NoMemory>
+    ensures { OnOk result (text.new ≡ text.old ++ spec.sight_text chart.now taken states.now vars.now raised.now) }
+{
+    text.append(b"after ")?;
+    append_number(text, taken)?;
+    text.append(b" in")?;
+    append_states(text, chart, states)?;
+    text.append(b" vars")?;
+    append_vars(text, chart, vars)?;
+    text.append(b" raised")?;
+    append_raised(text, chart, raised)
+}
+
+#[tactic(auto, unfolding(crate::specs::Replies::reply_text))]
+fn append_text(text: &mut Bytes, chart: &Chart, reply: &Reply) -> Result<(), NoMemory>
+    ensures { OnOk result (text.new ≡ text.old ++ spec.reply_text chart.now reply.now) }
+{
+    match reply {
+        Reply::Ok => text.append(b"ok"),
+        Reply::Refused(fault) => append_fault(text, *fault),
+        Reply::Stepped { step, notes } => append_step(text, chart, *step, notes),
+        Reply::Central {
+            taken,
+            states,
+            vars,
+            raised,
+        } => append_sight(
+            text,
+            chart,
+            *taken,
+            states.as_slice(),
+            vars.as_slice(),
+            raised.as_slice(),
+        ),
+    }
+}
+
+/// Appends the reply to the line with this number, as a line of its own. A number that the chart hasn't is written as
+/// an empty name. Linear in what is appended; where memory runs out, nothing is.
+#[tactic(auto, unfolding(crate::specs::Replies::numbered))]
+pub fn append_reply(
+    alloc: Global,
+    text: &mut Bytes,
+    chart: &Chart,
+    line: u32,
+    reply: &Reply,
+) -> Result<(), NoMemory>
+    ensures ok { OnOk result (text.new ≡ text.old ++ spec.numbered line (spec.reply_text chart.now reply.now)) }
+    ensures err { OnErr result (text.new ≡ text.old) }
+{
+    let mut written = List::new(alloc);
+    append_number(&mut written, line)?;
+    written.append(b": ")?;
+    append_text(&mut written, chart, reply)?;
+    written.push(b'\n')?;
+    text.append(written.as_slice())
+}

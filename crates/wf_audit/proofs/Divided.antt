@@ -1,10 +1,10 @@
 -- A line more of an input without a divider.
-use Rattle.std.proofs.Common.{◌≡◌, ◌≢◌, ℕ, zero, suc, ◌+◌, ◌-◌, ◌<◌, ◌≤◌, ◌==◌, ◌&&◌, not, Bool, true, false, List, [], ◌∷◌, ◌++◌, length, take, drop, refl, sym, ◌∙◌, ap, arith, inl, inr, append_assoc, add-one, length-append, length-drop}
+use Rattle.std.proofs.Common.{◌≡◌, ◌≢◌, ℕ, suc, ◌+◌, ◌-◌, ◌<◌, ◌==◌, not, true, false, List, [], ◌∷◌, ◌++◌, length, take, drop, refl, sym, ◌∙◌, ap, arith, inl, inr, append_assoc, length-append, length-drop}
 use Rattle.std.proofs.lemmas.Bool.{cases_Bool}
 use Rattle.std.proofs.lemmas.List.{take-append-drop}
 use Rattle.std.proofs.lemmas.List.Sums.{take_while-cons}
 use Rattle.std.proofs.Math.Seq.{take-append_seam}
-use Rattle.wf_audit.specs.Lines.{first_line, behind_line, lines_of, with_byte, is_divider, before_divider, behind_divider}
+use Rattle.wf_audit.specs.Lines.{first_line, behind_line, is_divider, before_divider, behind_divider}
 
 -- how many bytes the first line and its LF have
 abbrev pub size : List ℕ → ℕ
@@ -63,11 +63,12 @@ behind_other (b ∷ bytes) other = rw other (behind_lf (b ∷ bytes))
 
 -- and then the rest stands behind that line too
 pub is_behind-more : (input rest : List ℕ) → is_divider (first_line rest) ≡ false → IsBehind input rest → IsBehind input (behind_line rest)
-is_behind-more input rest other (front, whole, before, behind) =
-    (front ++ take (size rest) rest,
-    append_assoc front (take (size rest) rest) (behind_line rest) ∙ ap (λ xs. front ++ xs) (take-append-drop (size rest) rest) ∙ whole,
-    before ∙ ap (λ xs. front ++ xs) (before_other rest other) ∙ sym (append_assoc front (take (size rest) rest) (before_divider true (behind_line rest))),
-    behind ∙ behind_other rest other)
+is_behind-more input rest other (front, whole, before, behind) = (
+  front ++ take (size rest) rest,
+  append_assoc front (take (size rest) rest) (behind_line rest) ∙ ap (λ xs. front ++ xs) (take-append-drop (size rest) rest) ∙ whole,
+  before ∙ ap (λ xs. front ++ xs) (before_other rest other) ∙ sym (append_assoc front (take (size rest) rest) (before_divider true (behind_line rest))),
+  behind ∙ behind_other rest other,
+)
 
 -- what stands before the rest
 pub front_of : (input rest front : List ℕ) → front ++ rest ≡ input → take (length input - length rest) input ≡ front

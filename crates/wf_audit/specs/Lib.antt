@@ -2,3 +2,4 @@ pub mod Lines
 pub mod Names
 pub mod Script
 pub mod Replies
+pub mod CentralText

@@ -5,6 +5,8 @@ mod lines;
 mod names;
 mod reply;
 mod script;
+#[cfg(test)]
+mod tests;
 
 pub use lines::{Division, divide};
 pub use reply::{Reply, append_reply};

@@ -71,10 +71,7 @@ fn unit_numbers<'a>(alloc: Global, units: &'a [Name]) -> Result<HashMap<&'a [u8]
     Ok(numbers)
 }
 
-fn event_numbers<'a>(
-    alloc: Global,
-    events: &'a [Event],
-) -> Result<HashMap<&'a [u8], u32>, NoMemory>
+fn event_numbers<'a>(alloc: Global, events: &'a [Event]) -> Result<HashMap<&'a [u8], u32>, NoMemory>
     requires { length events.now ≤ MAX_EVENTS }
     ensures { IfOk result (λ numbers. spec.found_in numbers ≡ (λ name. position_from (λ event. bytes_eq name event.name) 0 events.now)) }
 {

@@ -18,7 +18,10 @@ pub enum Reply {
     /// The outer was refused.
     Refused(OuterFault),
     /// The step with this number was taken.
-    Stepped { step: u32, notes: StepNotes },
+    Stepped {
+        step: u32,
+        notes: StepNotes,
+    },
     /// The sight of the central run: how many steps were taken, the states that are in, the variables with their
     /// values, the events raised in the last step.
     Central {
@@ -104,11 +107,7 @@ fn append_fired(text: &mut Bytes, fired: &[TransId]) -> Result<(), NoMemory>
     Ok(())
 }
 
-fn append_starts(
-    text: &mut Bytes,
-    chart: &Chart,
-    starts: &[(ActId, u32)],
-) -> Result<(), NoMemory>
+fn append_starts(text: &mut Bytes, chart: &Chart, starts: &[(ActId, u32)]) -> Result<(), NoMemory>
     ensures { OnOk result (text.new ≡ text.old ++ spec.starts_text chart.now starts.now) }
 {
     for (act, item) in starts {

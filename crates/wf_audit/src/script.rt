@@ -130,7 +130,12 @@ fn line_tokens(alloc: Global, line: &[u8]) -> Result<Option<List<Token>>, NoMemo
 
 // What the line with this number says.
 #[tactic(auto, unfolding(crate::specs::Script::line_at))]
-fn line_at(alloc: Global, names: &Names, number: u32, line: &[u8]) -> Result<Option<CentralLine>, ScriptFault>
+fn line_at(
+    alloc: Global,
+    names: &Names,
+    number: u32,
+    line: &[u8],
+) -> Result<Option<CentralLine>, ScriptFault>
     requires { length line.now ≤ MAX_INPUT }
     ensures { spec.Gives result (spec.line_at (found_in names.now.units) (found_in names.now.events) number line.now) }
 {
@@ -144,7 +149,11 @@ fn line_at(alloc: Global, names: &Names, number: u32, line: &[u8]) -> Result<Opt
 /// What the lines of a script say of this chart, one entry a line: none for a line without tokens. Refuses the first
 /// line that is outside the grammar. Linear in the script on average.
 #[tactic(auto, unfolding(crate::specs::Script::script_of))]
-pub fn read_central(alloc: Global, chart: &Chart, script: &[u8]) -> Result<List<Option<CentralLine>>, ScriptFault>
+pub fn read_central(
+    alloc: Global,
+    chart: &Chart,
+    script: &[u8],
+) -> Result<List<Option<CentralLine>>, ScriptFault>
     requires accepted { IsAccepted chart.now }
     requires within { length script.now ≤ MAX_INPUT }
     ensures { spec.Gives result (spec.script_of chart.now script.now) }

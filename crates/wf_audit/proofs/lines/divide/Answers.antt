@@ -6,5 +6,5 @@ use Rattle.wf_audit.proofs.lines.divide.Goals as goal
 pub loop-line-preserved : goal.loop-line-preserved
 loop-line-preserved c =
     let other : is_divider (first_line c.loop-line.rest.now) ≡ false =
-        ap is_divider (sym c.split_line.ensures.line) ∙ sym c.is_divider.ensures ∙ c.if-is_divider.false in
+    ap is_divider (sym c.split_line.ensures.line) ∙ sym c.is_divider.ensures ∙ c.if-is_divider.false in
     subst (IsBehind c.args.input.now) (sym c.split_line.ensures.rest) (is_behind-more c.args.input.now c.loop-line.rest.now other c.loop-line.invariant)

@@ -1,8 +1,8 @@
-use Rattle.std.proofs.Common.{rules, arith, ◌≡◌, ◌≢◌, ◌+◌, ◌≤◌, ◌∷◌, ◌++◌, [], List, ℕ, Option, Result, Ok, Err, length, sym, ◌∙◌, ap, ap₂, subst}
+use Rattle.std.proofs.Common.{rules, arith, ◌≡◌, ◌≢◌, ◌+◌, [], List, Option, Result, Ok, Err, length, sym, ◌∙◌, ap, ap₂, subst}
 use Rattle.wf_audit.specs.declared.script.CentralLine.{CentralLine}
 use Rattle.wf_audit.specs.declared.script.ScriptFault.{ScriptFault}
-use Rattle.wf_audit.specs.Lines.{lines_of, first_line, behind_line}
-use Rattle.wf_audit.specs.Names.{found_in, unit_named, event_named}
+use Rattle.wf_audit.specs.Lines.{lines_of}
+use Rattle.wf_audit.specs.Names.{found_in}
 use Rattle.wf_audit.specs.Script.{Gives, line_at, lines_from, script_of}
 use Rattle.wf_audit.proofs.Divided.{behind_line-shorter}
 use Rattle.wf_audit.proofs.Read.{gives_refused, read_more}

@@ -1,0 +1,75 @@
+-- The words of the central run: what it replies to each line of a script.
+use Rattle.std.specs.Prelude.{ℕ, ◌+◌, ◌==◌, ◌++◌, List, [], ◌∷◌, length, map, filter, flat_map, Option, Some, None, Result, Ok, Err}
+use Rattle.std.specs.List.{enumerate_from, range_with_len}
+use Rattle.wf_model.specs.declared.ids.StateId.{StateId}
+use Rattle.wf_model.specs.declared.chart.Chart.{Chart}
+use Rattle.wf_model.specs.declared.outer.Output.{Output}
+use Rattle.wf_model.specs.declared.outer.Entry.{Entry}
+use Rattle.wf_model.specs.declared.outer.OuterFault.{OuterFault}
+use Rattle.wf_model.specs.Tree.{all_states}
+use Rattle.wf_semantics.specs.Configuration.{is_in}
+use Rattle.wf_semantics.specs.Run.{CentralState, first_state, next_state, fired_in, started_in}
+use Rattle.wf_semantics.specs.Admission.{may_be_admitted}
+use Rattle.wf_audit.specs.declared.script.CentralLine.{CentralLine}
+use Rattle.wf_audit.specs.declared.script.CentralLine.TheVariants as lines
+use Rattle.wf_audit.specs.declared.reply.Reply.{Reply}
+use Rattle.wf_audit.specs.declared.reply.Reply.TheVariants as reply
+use Rattle.wf_audit.specs.Replies.{reply_text, numbered}
+
+-- where a run stands: its state, and the outers that were admitted for the next step, in the order of their lines
+pub record Standing : Type 0 where
+  pub central : CentralState
+  pub pending : List Entry
+
+-- the entries of unit 0, then those of unit 1, and so on, each in their order
+abbrev pub in_unit_order : Chart → List Entry → List Entry
+in_unit_order chart entries = flat_map (λ u. filter (λ x. x.unit.0 == u) entries) (range_with_len 0 (length chart.units))
+
+-- the entries of the next step
+abbrev pub coming : Chart → Standing → List Entry
+coming chart s = in_unit_order chart s.pending
+
+-- the states that are in, ascending
+abbrev pub states_in : Chart → CentralState → List StateId
+states_in chart c = map (λ s. record { 0 = s }) (filter (λ s. is_in s c.configuration) (all_states chart))
+
+-- the variables with their values, in order
+abbrev pub vars_of : CentralState → List Output
+vars_of c = map (λ x. record { var = record { 0 = x.0 }; val = x.1 }) (enumerate_from 0 c.store)
+
+abbrev pub admission : Result (Unit {0}) OuterFault → Reply
+admission (Ok admitted) = reply.Ok
+admission (Err fault) = reply.Refused fault
+
+-- the reply to a line
+unfoldable pub reply_of : Chart → Standing → CentralLine → Reply
+reply_of chart s (lines.Outer unit outer) = admission (may_be_admitted chart s.central s.pending unit.0 outer)
+reply_of chart s lines.Step =
+    reply.Stepped (s.central.taken + 1) (record {
+      fired = map (λ t. record { 0 = t }) (fired_in chart s.central (coming chart s));
+      starts = started_in chart s.central (coming chart s);
+    })
+reply_of chart s lines.Show = reply.Central s.central.taken (states_in chart s.central) (vars_of s.central) s.central.raised
+
+-- one more entry for the next step, where it was admitted
+abbrev pub joined : Standing → Entry → Result (Unit {0}) OuterFault → Standing
+joined s entry (Ok admitted) = record s { pending = s.pending ++ entry ∷ [] }
+joined s entry (Err fault) = s
+
+-- where the run stands after a line
+unfoldable pub after_line : Chart → Standing → CentralLine → Standing
+after_line chart s (lines.Outer unit outer) =
+    joined s (record { unit = unit; outer = outer }) (may_be_admitted chart s.central s.pending unit.0 outer)
+after_line chart s lines.Step = record { central = next_state chart s.central (coming chart s); pending = [] }
+after_line chart s lines.Show = s
+
+-- the lines of the replies from line n on; a line that says nothing has no reply
+abbrev pub replies_from : Chart → Standing → ℕ → List (Option CentralLine) → List ℕ
+replies_from chart s n [] = []
+replies_from chart s n (None ∷ more) = replies_from chart s (n + 1) more
+replies_from chart s n (Some line ∷ more) =
+    numbered n (reply_text chart (reply_of chart s line)) ++ replies_from chart (after_line chart s line) (n + 1) more
+
+-- the text of the central run
+unfoldable pub central_text : Chart → List (Option CentralLine) → List ℕ
+central_text chart script = replies_from chart (record { central = first_state chart; pending = [] }) 1 script

@@ -1,0 +1,164 @@
+//! A script with each kind of line, and a text with each reply.
+use crate::{CentralLine, Reply, ScriptFault, append_reply, divide, read_central};
+use std::alloc::Global;
+use std::test::Fail;
+use wf_central::StepNotes;
+use wf_check::check_plain;
+use wf_model::{
+    ActId, Activity, Bytes, Chart, Event, EventId, Kind, List, Name, NoMemory, Outer, OuterFault,
+    Output, Sort, State, StateId, TransId, Txt, UnitId, Val, VarId, Variable,
+};
+
+fn state(
+    alloc: Global,
+    name: &[u8],
+    kind: Kind,
+    parent: Option<StateId>,
+) -> Result<State, NoMemory> {
+    Ok(State {
+        name: Name::new(alloc, name)?,
+        kind,
+        parent,
+        unit: UnitId(0),
+    })
+}
+
+fn event(alloc: Global, name: &[u8], unit: Option<UnitId>) -> Result<Event, NoMemory> {
+    Ok(Event {
+        name: Name::new(alloc, name)?,
+        unit,
+    })
+}
+
+// A chart with the state P, the event go and the units here and there.
+fn chart(alloc: Global) -> Result<Chart, NoMemory> {
+    let mut units = List::new(alloc);
+    units.push(Name::new(alloc, b"here")?)?;
+    units.push(Name::new(alloc, b"there")?)?;
+    let mut events = List::new(alloc);
+    events.push(event(alloc, b"fault", None)?)?;
+    events.push(event(alloc, b"go", Some(UnitId(1)))?)?;
+    let mut states = List::new(alloc);
+    states.push(state(alloc, b"R", Kind::Or, None)?)?;
+    states.push(state(alloc, b"P", Kind::Basic, Some(StateId(0)))?)?;
+    Ok(Chart {
+        name: Name::new(alloc, b"two")?,
+        units,
+        events,
+        vars: List::new(alloc),
+        acts: List::new(alloc),
+        states,
+        transitions: List::new(alloc),
+    })
+}
+
+#[test]
+fn divides_an_input(rt: HostRuntime) -> Result<(), Fail> {
+    let parts = divide(b"a\n--- \n---\r\nb\n---\n");
+    assert_eq!(rt; parts.chart, b"a\n--- \n".as_slice());
+    assert_eq!(rt; parts.script, b"b\n---\n".as_slice());
+    let whole = divide(b" ---\na");
+    assert_eq!(rt; whole.chart, b" ---\na".as_slice());
+    assert_eq!(rt; whole.script.len(), 0);
+    Ok(())
+}
+
+#[test]
+fn reads_each_line(rt: HostRuntime) -> Result<(), Fail> {
+    let alloc = rt.alloc();
+    let checked = check_plain(alloc, chart(alloc)?)?.ok_or("refused")?;
+    let script = b"outer there event go\r\n# nothing\n\n step\nshow # now";
+    let lines = read_central(alloc, checked.chart(), script)?;
+    assert_eq!(rt; lines.len(), 5);
+    let lines = lines.as_slice();
+    assert!(rt;
+        matches!(
+            &lines[0],
+            Some(CentralLine::Outer {
+                unit: UnitId(1),
+                outer: Outer::Happen(EventId(1)),
+            })
+        )
+    );
+    assert!(rt; lines[1].is_none());
+    assert!(rt; lines[2].is_none());
+    assert!(rt; matches!(&lines[3], Some(CentralLine::Step)));
+    assert!(rt; matches!(&lines[4], Some(CentralLine::Show)));
+    Ok(())
+}
+
+#[test]
+fn refuses_a_line(rt: HostRuntime) -> Result<(), Fail> {
+    let alloc = rt.alloc();
+    let checked = check_plain(alloc, chart(alloc)?)?.ok_or("refused")?;
+    let fault = read_central(alloc, checked.chart(), b"step\n\nouter go event here\n").err();
+    assert_eq!(rt; fault, Some(ScriptFault::Refused { line: 3 }));
+    Ok(())
+}
+
+// The chart with a variable x and an activity job.
+fn chart_with_values(alloc: Global) -> Result<Chart, NoMemory> {
+    let mut chart = chart(alloc)?;
+    chart.vars.push(Variable {
+        name: Name::new(alloc, b"x")?,
+        sort: Sort::Int,
+        first: Val::Int(0),
+    })?;
+    chart.acts.push(Activity {
+        name: Name::new(alloc, b"job")?,
+        unit: UnitId(0),
+        outputs: List::new(alloc),
+    })?;
+    Ok(chart)
+}
+
+fn output(val: Val) -> Output {
+    Output { var: VarId(0), val }
+}
+
+fn sight(alloc: Global) -> Result<Reply, NoMemory> {
+    let mut word = Txt::new();
+    word.push(b'w');
+    let vars = [
+        output(Val::Int(-1)),
+        output(Val::Bool(true)),
+        output(Val::Text(word)),
+    ];
+    Ok(Reply::Central {
+        taken: 7,
+        states: List::from_slice(alloc, &[StateId(0), StateId(1)])?,
+        vars: List::from_slice(alloc, &vars)?,
+        raised: List::from_slice(alloc, &[EventId(0), EventId(1)])?,
+    })
+}
+
+fn stepped(alloc: Global) -> Result<Reply, NoMemory> {
+    Ok(Reply::Stepped {
+        step: 8,
+        notes: StepNotes {
+            fired: List::from_slice(alloc, &[TransId(0), TransId(12)])?,
+            starts: List::from_slice(alloc, &[(ActId(0), 3)])?,
+        },
+    })
+}
+
+#[test]
+fn writes_each_reply(rt: HostRuntime) -> Result<(), Fail> {
+    let alloc = rt.alloc();
+    let chart = chart_with_values(alloc)?;
+    let mut text: Bytes = List::new(alloc);
+    append_reply(alloc, &mut text, &chart, 1, &Reply::Ok)?;
+    append_reply(
+        alloc,
+        &mut text,
+        &chart,
+        2,
+        &Reply::Refused(OuterFault::WrongUnit),
+    )?;
+    append_reply(alloc, &mut text, &chart, 10, &stepped(alloc)?)?;
+    append_reply(alloc, &mut text, &chart, 11, &sight(alloc)?)?;
+    let wanted =
+        b"1: ok\n2: wrong unit\n10: step 8 fired t0 t12 starts job#3\n11: after 7 in R P vars x=-1 x=true x=\"w\" raised fault go\n";
+    assert_eq!(rt; text.as_slice(), wanted.as_slice());
+    Ok(())
+}

@@ -3,3 +3,4 @@ pub mod Few
 pub mod Noted
 pub mod Within
 pub mod Read
+pub mod Sights

@@ -2,8 +2,10 @@
 use Rattle.std.specs.Prelude.{ℕ, ◌+◌, ◌==◌, ◌++◌, List, [], ◌∷◌, length, map, filter, flat_map, Option, Some, None, Result, Ok, Err}
 use Rattle.std.specs.List.{enumerate_from, range_with_len}
 use Rattle.wf_model.specs.declared.ids.StateId.{StateId}
+use Rattle.wf_model.specs.declared.ids.UnitId.{UnitId}
 use Rattle.wf_model.specs.declared.chart.Chart.{Chart}
 use Rattle.wf_model.specs.declared.outer.Output.{Output}
+use Rattle.wf_model.specs.declared.outer.Outer.{Outer}
 use Rattle.wf_model.specs.declared.outer.Entry.{Entry}
 use Rattle.wf_model.specs.declared.outer.OuterFault.{OuterFault}
 use Rattle.wf_model.specs.Tree.{all_states}
@@ -29,38 +31,59 @@ in_unit_order chart entries = flat_map (λ u. filter (λ x. x.unit.0 == u) entri
 abbrev pub coming : Chart → Standing → List Entry
 coming chart s = in_unit_order chart s.pending
 
+abbrev pub state_id : ℕ → StateId
+state_id s = record { 0 = s }
+
 -- the states that are in, ascending
 abbrev pub states_in : Chart → CentralState → List StateId
-states_in chart c = map (λ s. record { 0 = s }) (filter (λ s. is_in s c.configuration) (all_states chart))
+states_in chart c = map state_id (filter (λ s. is_in s c.configuration) (all_states chart))
 
 -- the variables with their values, in order
 abbrev pub vars_of : CentralState → List Output
 vars_of c = map (λ x. record { var = record { 0 = x.0 }; val = x.1 }) (enumerate_from 0 c.store)
 
-abbrev pub admission : Result (Unit {0}) OuterFault → Reply
-admission (Ok admitted) = reply.Ok
-admission (Err fault) = reply.Refused fault
+abbrev pub answer : Result (Unit {0}) OuterFault → Reply
+answer (Ok admitted) = reply.Ok
+answer (Err fault) = reply.Refused fault
 
--- the reply to a line
-unfoldable pub reply_of : Chart → Standing → CentralLine → Reply
-reply_of chart s (lines.Outer unit outer) = admission (may_be_admitted chart s.central s.pending unit.0 outer)
-reply_of chart s lines.Step =
+-- the reply to an outer
+abbrev pub admitted : Chart → Standing → UnitId → Outer → Reply
+admitted chart s unit outer = answer (may_be_admitted chart s.central s.pending unit.0 outer)
+
+-- the reply to a step
+abbrev pub stepped : Chart → Standing → Reply
+stepped chart s =
     reply.Stepped (s.central.taken + 1) (record {
       fired = map (λ t. record { 0 = t }) (fired_in chart s.central (coming chart s));
       starts = started_in chart s.central (coming chart s);
     })
-reply_of chart s lines.Show = reply.Central s.central.taken (states_in chart s.central) (vars_of s.central) s.central.raised
+
+-- the sight of a state
+abbrev pub sight_of : Chart → CentralState → Reply
+sight_of chart c = reply.Central c.taken (states_in chart c) (vars_of c) c.raised
+
+-- the reply to a line
+unfoldable pub reply_of : Chart → Standing → CentralLine → Reply
+reply_of chart s (lines.Outer unit outer) = admitted chart s unit outer
+reply_of chart s lines.Step = stepped chart s
+reply_of chart s lines.Show = sight_of chart s.central
 
 -- one more entry for the next step, where it was admitted
 abbrev pub joined : Standing → Entry → Result (Unit {0}) OuterFault → Standing
 joined s entry (Ok admitted) = record s { pending = s.pending ++ entry ∷ [] }
 joined s entry (Err fault) = s
 
+abbrev pub after_outer : Chart → Standing → UnitId → Outer → Standing
+after_outer chart s unit outer = joined s (record { unit = unit; outer = outer }) (may_be_admitted chart s.central s.pending unit.0 outer)
+
+-- after a step no entry is left
+abbrev pub after_step : Chart → Standing → Standing
+after_step chart s = record { central = next_state chart s.central (coming chart s); pending = [] }
+
 -- where the run stands after a line
 unfoldable pub after_line : Chart → Standing → CentralLine → Standing
-after_line chart s (lines.Outer unit outer) =
-    joined s (record { unit = unit; outer = outer }) (may_be_admitted chart s.central s.pending unit.0 outer)
-after_line chart s lines.Step = record { central = next_state chart s.central (coming chart s); pending = [] }
+after_line chart s (lines.Outer unit outer) = after_outer chart s unit outer
+after_line chart s lines.Step = after_step chart s
 after_line chart s lines.Show = s
 
 -- the lines of the replies from line n on; a line that says nothing has no reply
@@ -70,6 +93,9 @@ replies_from chart s n (None ∷ more) = replies_from chart s (n + 1) more
 replies_from chart s n (Some line ∷ more) =
     numbered n (reply_text chart (reply_of chart s line)) ++ replies_from chart (after_line chart s line) (n + 1) more
 
+abbrev pub first_standing : Chart → Standing
+first_standing chart = record { central = first_state chart; pending = [] }
+
 -- the text of the central run
 unfoldable pub central_text : Chart → List (Option CentralLine) → List ℕ
-central_text chart script = replies_from chart (record { central = first_state chart; pending = [] }) 1 script
+central_text chart script = replies_from chart (first_standing chart) 1 script

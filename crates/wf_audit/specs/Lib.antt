@@ -3,3 +3,4 @@ pub mod Names
 pub mod Script
 pub mod Replies
 pub mod CentralText
+pub mod Standings

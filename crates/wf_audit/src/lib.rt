@@ -1,6 +1,7 @@
 //! What the central run of a chart takes and gives as text: the lines of an input, the lines of a script, the replies.
 #![tactic(auto)]
 
+mod central;
 mod lines;
 mod names;
 mod reply;
@@ -8,6 +9,7 @@ mod script;
 #[cfg(test)]
 mod tests;
 
+pub use central::run_central;
 pub use lines::{Division, divide};
 pub use reply::{Reply, append_reply};
 pub use script::{CentralLine, ScriptFault, read_central};

@@ -2,5 +2,9 @@
 #![tactic(auto)]
 
 mod notes;
+mod passes;
+mod start;
+mod state;
 
 pub use notes::StepNotes;
+pub use state::CentralState;

@@ -14,8 +14,8 @@ use std::alloc::Global;
 use wf_model::{Chart, Checked, NoMemory, Transition};
 
 /// The chart, sealed, if it is plain and accepted. None if it isn't, and `NoMemory` where memory runs out.
-/// It grows with the square of the states, and else with the size of the chart; a chart that isn't plain is refused
-/// in a time linear in its transitions, and one over a limit at once.
+/// It grows with the square of the states, and else with the size of the chart. A chart that isn't plain, or is over
+/// a limit, is refused in a time linear in its transitions.
 #[tactic(auto, unfolding(crate::specs::Checks::plain_of))]
 pub fn check_plain(alloc: Global, chart: Chart) -> Result<Option<Checked>, NoMemory>
     ensures { IfOk result (λ checked. checked ≡ plain_of chart) }
@@ -27,6 +27,7 @@ pub fn check_plain(alloc: Global, chart: Chart) -> Result<Option<Checked>, NoMem
     }
 }
 
+// The rules on variables, activities, guards and actions aren't tested: each plain chart keeps them.
 #[tactic(auto, using(crate::proofs::Plains::plain_outputs, crate::proofs::Plains::plain_sorts), unfolding(wf_model::specs::Accepted::is_accepted))]
 fn is_accepted(alloc: Global, chart: &Chart) -> Result<bool, NoMemory>
     requires { IsTrue (is_plain chart.now) }

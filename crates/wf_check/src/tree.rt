@@ -1,4 +1,4 @@
-//! Walks up the tree of a chart's states. Each ends after as many steps as the number that it begins at.
+//! Walks up the tree of a chart's states. Each takes at most as many steps as the number of its first state.
 ghost use Rattle.std.specs.Prelude.{◌≡◌, length, option_map};
 ghost use Rattle.wf_model.specs.Tree as spec;
 

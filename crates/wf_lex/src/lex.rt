@@ -1,5 +1,5 @@
 //! The tokenizer.
-ghost use Rattle.std.specs.Prelude.{◌≡◌, ◌≤◌, length, take_while, IfSome};
+ghost use Rattle.std.specs.Prelude.{◌≡◌, ◌≤◌, length, take_while, IfSome, IfOk};
 ghost use Rattle.wf_model.specs.Names as names;
 ghost use Rattle.wf_model.specs.Txt as txt;
 ghost use Rattle.wf_lex.specs.Lex as spec;
@@ -87,7 +87,8 @@ fn token_at(first: u8, bytes: &[u8]) -> Option<(TokenKind, usize)>
 #[tactic(auto, unfolding(crate::specs::Lex::tokens_of))]
 pub fn tokens(alloc: Global, text: &[u8]) -> Result<List<Token>, LexFault>
     requires { length text.now ≤ MAX_INPUT }
-    ensures { Gives result (spec.tokens_of text.now) }
+    ensures exact { Gives result (spec.tokens_of text.now) }
+    ensures few { IfOk result (λ found. length found ≤ MAX_TOKENS) }
 {
     let mut found = Vec::new(alloc);
     let mut at = 0;

@@ -102,14 +102,18 @@ source_in chart i tr ok lt is = omega (arith, ((chart_of chart ok).sources i lt)
 pub target_in : (chart : Chart) (i : ℕ) (tr : Transition) → IsAccepted chart → i < length chart.transitions → tr ≡ get_or chart.transitions i tr → tr.target.0 < length chart.states
 target_in chart i tr ok lt is = omega (arith, ((chart_of chart ok).targets i lt).1, target_read chart i tr lt is)
 
--- one state more that may pass
-pub filter_more : (p : ℕ → Bool) (i : ℕ) → map state_id (filter p (range_with_len 0 (i + 1))) ≡ map state_id (filter p (range_with_len 0 i)) ++ cond (p i) (state_id i ∷ []) []
-filter_more p i =
-    ap (λ (l : List ℕ). map state_id (filter p l)) (range_more i)
-    ∙ ap (map state_id) (filter-append p (range_with_len 0 i) (i ∷ []))
+-- one number more that may pass
+pub filter_more_by : {A : Type 0} (f : ℕ → A) (p : ℕ → Bool) (i : ℕ) → map f (filter p (range_with_len 0 (i + 1))) ≡ map f (filter p (range_with_len 0 i)) ++ cond (p i) (f i ∷ []) []
+filter_more_by {A} f p i =
+    ap (λ (l : List ℕ). map f (filter p l)) (range_more i)
+    ∙ ap (map f) (filter-append p (range_with_len 0 i) (i ∷ []))
     ∙ map_more (filter p (range_with_len 0 i)) (p i)
   where
-    map_more : (xs : List ℕ) (b : Bool) → map state_id (xs ++ cond b (i ∷ []) []) ≡ map state_id xs ++ cond b (state_id i ∷ []) []
+    map_more : (xs : List ℕ) (b : Bool) → map f (xs ++ cond b (i ∷ []) []) ≡ map f xs ++ cond b (f i ∷ []) []
     map_more [] true = refl
     map_more [] false = refl
-    map_more (x ∷ xs) b = ap (λ (l : List StateId). state_id x ∷ l) (map_more xs b)
+    map_more (x ∷ xs) b = ap (λ (l : List A). f x ∷ l) (map_more xs b)
+
+-- one state more
+pub filter_more : (p : ℕ → Bool) (i : ℕ) → map state_id (filter p (range_with_len 0 (i + 1))) ≡ map state_id (filter p (range_with_len 0 i)) ++ cond (p i) (state_id i ∷ []) []
+filter_more p i = filter_more_by state_id p i

@@ -40,7 +40,8 @@ pub fn lineages(alloc: Global, chart: &Chart) -> Result<List<List<StateId>>, NoM
     Ok(table)
 }
 
-fn has_id(ids: &[StateId], a: StateId) -> bool
+/// Whether a state is among these.
+pub fn has_id(ids: &[StateId], a: StateId) -> bool
     ensures { result ≡ list_any (λ x. x.0 == a.0) ids.now }
 {
     ids.iter().any(|x| x.0 == a.0)

@@ -1,6 +1,6 @@
 -- Parents and children in a list of states.
-use Rattle.std.proofs.Common.{◌≡◌, ℕ, zero, suc, ◌+◌, ◌<◌, ◌≤◌, ◌==◌, ◌⊎◌, Bool, true, false, List, [], ◌∷◌, length, Option, Some, None, unwrap_or, slice_get, inl, inr, refl, sym, ap, ◌∙◌, arith, eqb-true, eq-eqb, true≢false}
-use Rattle.std.specs.List.{list_any, range_with_len}
+use Rattle.std.proofs.Common.{◌≡◌, ℕ, zero, suc, ◌<◌, ◌≤◌, ◌⊎◌, Bool, true, List, [], ◌∷◌, length, Option, Some, None, unwrap_or, slice_get, inl, inr, refl, sym, ap, ◌∙◌, arith, eqb-true, eq-eqb, true≢false}
+use Rattle.std.specs.List.{list_any}
 use Rattle.std.specs.Option.{option_map, option_and_then}
 use Rattle.std.proofs.lemmas.Option.{slice_get_past}
 use Rattle.wf_model.specs.declared.chart.Chart.{Chart}
@@ -10,7 +10,7 @@ use Rattle.wf_model.specs.declared.chart.Kind.TheVariants.{Basic, Or, And}
 use Rattle.wf_model.specs.Tree.{kind, parent, parent_of, children, all_states, is_child_of, is_or}
 use Rattle.wf_model.specs.Accepted.{has_child}
 use Rattle.wf_semantics.proofs.Bools.{Mem, or_cases, or_left, or_right}
-use Rattle.wf_semantics.proofs.Lists.{mem_range, range_mem, mem_filter, filter_mem}
+use Rattle.wf_semantics.proofs.Lists.{mem_range, mem_filter, filter_mem}
 
 pub lt_or_ge : (a b : ℕ) → (a < b) ⊎ (b ≤ a)
 lt_or_ge a b = grind arith

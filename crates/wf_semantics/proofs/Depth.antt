@@ -9,8 +9,8 @@ use Rattle.wf_semantics.specs.Entry.{trees, node, grown, tree_by}
 use Rattle.wf_semantics.proofs.Facts.{IsChart}
 use Rattle.wf_semantics.proofs.Bools.{Mem}
 use Rattle.wf_semantics.proofs.Charts.{falls}
+use Rattle.wf_semantics.specs.Picks.{PicksChildren}
 use Rattle.wf_semantics.proofs.Children.{kind_past, mem_child_parent}
-use Rattle.wf_semantics.proofs.Grown.{Picks}
 
 trees_same : (f g : ℕ → Tree) (ks : List ℕ) → ((k : ℕ) → Mem k ks → f k ≡ g k) → trees f ks ≡ trees g ks
 trees_same f g [] h = refl
@@ -19,7 +19,7 @@ trees_same f g (k ∷ ks) h = ap₂ More (h k (inl refl)) (trees_same f g ks (λ
 leaf_past : (k : Kind) (s : ℕ) (c : Tree) (cs : Trees) → k ≡ Basic → Leaf s ≡ node k s c cs
 leaf_past k s c cs e = ap (λ (x : Kind). node x s c cs) (sym e)
 
-module _ (chart : Chart) (ok : IsChart chart) (pick : ℕ → ℕ) (fits : Picks chart pick) where
+module _ (chart : Chart) (ok : IsChart chart) (pick : ℕ → ℕ) (fits : PicksChildren chart pick) where
   grown_same : (f g s : ℕ) → length chart.states ≤ f + s → length chart.states ≤ g + s → grown chart pick f s ≡ grown chart pick g s
   unfolding grown
   grown_same zero zero s hf hg = refl

@@ -1,5 +1,5 @@
 -- What an accepted chart has, rule by rule.
-use Rattle.std.proofs.Common.{◌≡◌, ℕ, zero, suc, ◌+◌, ◌-◌, ◌<◌, ◌≤◌, ◌==◌, ◌||◌, ◌&&◌, not, nat_lt, nat_le, Bool, true, false, List, [], ◌∷◌, length, Option, Some, None, unwrap_or, slice_get, refl, sym, ap, ◌∙◌, subst, arith, eqb-true, true≢false, ltb-true, inl, inr}
+use Rattle.std.proofs.Common.{◌≡◌, ℕ, zero, suc, ◌+◌, ◌-◌, ◌<◌, ◌≤◌, ◌==◌, ◌||◌, nat_lt, Bool, true, false, List, [], ◌∷◌, length, Option, Some, None, unwrap_or, slice_get, refl, sym, ap, ◌∙◌, subst, arith, eqb-true, true≢false, ltb-true, inl, inr}
 use Rattle.std.specs.List.{list_all, enumerate_from}
 use Rattle.std.specs.Option.{option_map, option_and_then}
 use Rattle.std.proofs.lemmas.Bool.{leb-true}
@@ -12,7 +12,7 @@ use Rattle.wf_model.specs.declared.chart.Kind.{Kind}
 use Rattle.wf_model.specs.declared.chart.Kind.TheVariants.{Basic, Or, And}
 use Rattle.wf_model.specs.Tree.{kind, is_or, parent, parent_of, children, source, target, ancestors, is_above}
 use Rattle.wf_model.specs.Accepted.{IsAccepted, is_accepted, is_small, is_numbered, is_named, is_shaped, is_sorted, all_of, all_numbered, follows, suits, has_child, is_placed_state, is_shaped_state, is_known_transition, is_small_transition, spares_root, is_known_activity, is_placed_event, are_outputs, is_known_action, is_known_expr}
-use Rattle.wf_semantics.proofs.Bools.{and_both, or_cases}
+use Rattle.wf_semantics.proofs.Bools.{and_both}
 use Rattle.wf_semantics.proofs.Children.{lt_or_ge, item_at, or_of, kind_past, has_children, has_no_children}
 
 -- what the laws rest on
@@ -142,8 +142,7 @@ module _ (chart : Chart) (p : AreParts chart) where
   shaped : (s : ℕ) → s < length chart.states → (length (ancestors chart s) < MAX_DEPTH) × (suits (kind chart s) (has_child chart s) ≡ true)
   shaped s lt =
       let w = item_at chart.states s lt in
-      let both = and_both (nat_lt (length (ancestors chart s)) MAX_DEPTH) (suits w.0.kind (has_child chart s)) (numbered_at (is_shaped_state chart) chart.states p.shaped_states s w.0 w.1) in
-      (
+      let both = and_both (nat_lt (length (ancestors chart s)) MAX_DEPTH) (suits w.0.kind (has_child chart s)) (numbered_at (is_shaped_state chart) chart.states p.shaped_states s w.0 w.1) in (
         ltb-true (length (ancestors chart s)) MAX_DEPTH both.0,
         ap (λ (o : Option State). suits (unwrap_or (option_map (λ state. state.kind) o) Basic) (has_child chart s)) w.1 ∙ both.1,
       )
@@ -173,8 +172,7 @@ module _ (chart : Chart) (p : AreParts chart) where
       let from : source chart t ≡ w.0.source.0 = ap (λ (o : Option Transition). unwrap_or (option_map (λ trans. trans.source.0) o) 0) w.1 in
       let to : target chart t ≡ w.0.target.0 = ap (λ (o : Option Transition). unwrap_or (option_map (λ trans. trans.target.0) o) 0) w.1 in
       let from_known : nat_lt w.0.source.0 (length chart.states) ≡ true = grind arith in
-      let to_known : nat_lt w.0.target.0 (length chart.states) ≡ true = grind arith in
-      (
+      let to_known : nat_lt w.0.target.0 (length chart.states) ≡ true = grind arith in (
         (omega (arith, from, ltb-true 0 w.0.source.0 both.0), omega (arith, from, ltb-true w.0.source.0 (length chart.states) from_known)),
         (omega (arith, to, ltb-true 0 w.0.target.0 both.1), omega (arith, to, ltb-true w.0.target.0 (length chart.states) to_known)),
       )

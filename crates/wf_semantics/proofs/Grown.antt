@@ -1,14 +1,13 @@
 -- Default trees, entry trees and the tree after a walk are trees of the chart; and a state of a grown tree is in by its parent.
-use Rattle.std.proofs.Common.{◌≡◌, ℕ, zero, suc, ◌+◌, ◌<◌, ◌≤◌, ◌==◌, ◌||◌, ◌&&◌, cond, Bool, true, false, List, [], ◌∷◌, length, Option, Some, None, find, unwrap_or, get_or, inl, inr, refl, sym, ap, ap₂, ◌∙◌, subst, arith, eqb-true, eq-eqb, true≢false}
-use Rattle.std.specs.Bool.{⊤}
+use Rattle.std.proofs.Common.{◌≡◌, ℕ, zero, suc, ◌+◌, ◌<◌, ◌≤◌, ◌==◌, ◌||◌, ◌&&◌, Bool, true, false, List, [], ◌∷◌, length, Option, Some, None, find, unwrap_or, get_or, inl, inr, refl, sym, ap, ap₂, ◌∙◌, subst, arith, eqb-true, eq-eqb, true≢false}
 use Rattle.wf_model.specs.declared.chart.Chart.{Chart}
 use Rattle.wf_model.specs.declared.chart.Kind.{Kind}
 use Rattle.wf_model.specs.declared.chart.Kind.TheVariants.{Basic, Or, And}
-use Rattle.wf_model.specs.Tree.{kind, parent, children, is_or, is_above, scope, target, all_transitions}
+use Rattle.wf_model.specs.Tree.{kind, parent, children, is_above, scope, target, all_transitions}
 use Rattle.wf_semantics.specs.Configuration.{Tree, Trees, Leaf, OrNode, AndNode, NoTrees, More, root, roots, is_in, is_in_some, IsTreeOf, AreTreesOf, IsConfiguration}
 use Rattle.wf_semantics.specs.Entry.{trees, node, grown, tree_by, first_child, default_tree, child_towards, entry_tree}
 use Rattle.wf_semantics.specs.Walk.{entered, walked, all_walked, first_of_scope, new_tree}
-use Rattle.wf_semantics.specs.Bits.{picked_by}
+use Rattle.wf_semantics.specs.Picks.{PicksChildren, picked_by}
 use Rattle.wf_semantics.proofs.Bools.{Mem, or_left, or_right, and_both, bool_iff}
 use Rattle.wf_semantics.proofs.Lists.{range_mem, find_some}
 use Rattle.wf_semantics.proofs.Children.{or_of, kind_past, parent_inside, mem_children, mem_child_parent}
@@ -39,12 +38,8 @@ unfolding grown
 grown_root chart pick zero s = refl
 grown_root chart pick (suc f) s = node_root (kind chart s) s (grown chart pick f (pick s)) (trees (grown chart pick f) (children chart s))
 
--- each Or state's picked state is one of its children
-abbrev pub Picks : Chart → (ℕ → ℕ) → Type 0
-Picks chart pick = (s : ℕ) → kind chart s ≡ Or → parent chart (pick s) ≡ Some s
-
 module _ (chart : Chart) (ok : IsChart chart) where
-  module _ (pick : ℕ → ℕ) (fits : Picks chart pick) where
+  module _ (pick : ℕ → ℕ) (fits : PicksChildren chart pick) where
     pub grown_tree : (f s : ℕ) → length chart.states ≤ f + s → IsTreeOf chart (grown chart pick f s)
     unfolding grown
     grown_tree zero s h = kind_past chart s (omega arith)
@@ -61,10 +56,10 @@ module _ (chart : Chart) (ok : IsChart chart) where
     pub tree_by_tree : (s : ℕ) → IsTreeOf chart (tree_by chart pick s)
     tree_by_tree s = grown_tree (length chart.states) s (omega arith)
 
-  pub first_picks : Picks chart (first_child chart)
+  pub first_picks : PicksChildren chart (first_child chart)
   first_picks s e = mem_child_parent chart s (first_child chart s) (mem_first (children chart s) (ok.or_has s e))
 
-  pub towards_picks : (x : ℕ) → Picks chart (child_towards chart x)
+  pub towards_picks : (x : ℕ) → PicksChildren chart (child_towards chart x)
   towards_picks x s e = go (find (λ k. (k == x) || is_above chart k x) (children chart s)) refl
     where
       go : (o : Option ℕ) → find (λ k. (k == x) || is_above chart k x) (children chart s) ≡ o → parent chart (unwrap_or o (first_child chart s)) ≡ Some s
@@ -148,7 +143,7 @@ trees_bit : (f : ℕ → Tree) (ks : List ℕ) (z p : ℕ) (q : Bool) → ((k : 
 trees_bit f [] z p q h = refl
 trees_bit f (k ∷ ks) z p q h = and_over_or (is_in z (f k)) (is_in p (f k)) (is_in_some z (trees f ks)) (is_in_some p (trees f ks)) q (h k (inl refl)) (trees_bit f ks z p q (λ x m. h x (inr m)))
 
-module _ (chart : Chart) (ok : IsChart chart) (pick : ℕ → ℕ) (fits : Picks chart pick) where
+module _ (chart : Chart) (ok : IsChart chart) (pick : ℕ → ℕ) (fits : PicksChildren chart pick) where
   abbrev pub Bit : Tree → ℕ → ℕ → Type 0
   Bit c z p = is_in z c ≡ (is_in p c && picked_by (kind chart p) (pick p) z)
 

@@ -13,3 +13,9 @@ pub mod Scopes
 pub mod Grown
 pub mod Depth
 pub mod Steps
+pub mod Towards
+pub mod Configured
+pub mod Tables
+pub mod LawsHold
+pub mod Runs
+mod SmallChart

@@ -72,3 +72,7 @@ filter_agree p q [] h = refl
 filter_agree p q (x ∷ xs) h =
     ap (λ (b : Bool). cond b (x ∷ filter p xs) (filter p xs)) (h x (inl refl))
     ∙ ap (λ (ys : List ℕ). cond (q x) (x ∷ ys) ys) (filter_agree p q xs (λ t m. h t (inr m)))
+
+pub find_no : (q : ℕ → Bool) (ks : List ℕ) → ((k : ℕ) → Mem k ks → q k ≡ false) → find q ks ≡ None
+find_no q [] h = refl
+find_no q (k ∷ ks) h = ap (λ (b : Bool). cond b (Some k) (find q ks)) (h k (inl refl)) ∙ find_no q ks (λ x m. h x (inr m))

@@ -1,11 +1,11 @@
 -- Where the states of an accepted chart stand.
-use Rattle.std.proofs.Common.{◌≡◌, ℕ, suc, ◌<◌, ◌≤◌, ◌==◌, ◌||◌, ◌⊎◌, Bool, true, false, Option, Some, None, inl, inr, sym, ap, ◌∙◌, arith}
+use Rattle.std.proofs.Common.{◌≡◌, ℕ, ◌<◌, ◌≤◌, ◌==◌, ◌||◌, ◌⊎◌, true, false, Some, None}
 use Rattle.wf_model.specs.declared.chart.Chart.{Chart}
-use Rattle.wf_model.specs.Tree.{kind, parent, is_above, is_among}
-use Rattle.wf_semantics.specs.Configuration.{Tree, Trees, root, roots, is_in, is_in_some, IsTreeOf, AreTreesOf}
+use Rattle.wf_model.specs.Tree.{parent, is_above, is_among}
+use Rattle.wf_semantics.specs.Configuration.{Tree, Trees, root, roots, is_in, is_in_some, IsTreeOf}
 use Rattle.wf_semantics.proofs.Bools.{not_true}
 use Rattle.wf_semantics.proofs.Ancestors as ancestors
-use Rattle.wf_semantics.proofs.Setting.{IsShaped, AreShaped}
+use Rattle.wf_semantics.proofs.Setting.{AreShaped}
 use Rattle.wf_semantics.proofs.Nodes as nodes
 use Rattle.wf_semantics.proofs.Nodes.{Under}
 use Rattle.wf_semantics.proofs.Facts.{IsChart}

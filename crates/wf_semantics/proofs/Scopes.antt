@@ -1,12 +1,10 @@
 -- The scope of a transition is the lowest Or state above its source and its target.
-use Rattle.std.proofs.Common.{◌≡◌, ℕ, zero, suc, ◌<◌, ◌≤◌, ◌==◌, ◌||◌, ◌&&◌, cond, ◌⊎◌, Bool, true, false, List, [], ◌∷◌, length, Option, Some, None, find, unwrap_or, inl, inr, refl, sym, ap, ◌∙◌, arith, eqb-true, true≢false}
+use Rattle.std.proofs.Common.{◌≡◌, ℕ, zero, suc, ◌<◌, ◌≤◌, ◌==◌, ◌||◌, ◌&&◌, cond, Bool, true, false, length, Option, Some, None, find, unwrap_or, inl, inr, refl, sym, ap, ◌∙◌, arith, eqb-true, true≢false}
 use Rattle.wf_model.specs.declared.chart.Chart.{Chart}
-use Rattle.wf_model.specs.declared.chart.Kind.TheVariants.{Or}
 use Rattle.wf_model.specs.Tree.{kind, parent, is_or, is_above, is_among, ancestors, ancestors_by, scope, source, target}
-use Rattle.wf_semantics.proofs.Bools.{Mem, or_cases, and_both, and_true}
+use Rattle.wf_semantics.proofs.Bools.{or_cases, and_both, and_true}
 use Rattle.wf_semantics.proofs.Lists.{among_mem, mem_among, find_some, find_none}
 use Rattle.wf_semantics.proofs.Ancestors.{by_up, below_low}
-use Rattle.wf_semantics.proofs.Children.{or_of}
 use Rattle.wf_semantics.proofs.Facts.{IsChart}
 use Rattle.wf_semantics.proofs.Charts.{falls, root_above}
 use Rattle.wf_semantics.proofs.Places.{IsBelow, above_compare, above_low}

@@ -1,10 +1,10 @@
 -- The walk fires what the rule fires, and moves what that enters and leaves.
-use Rattle.std.proofs.Common.{◌≡◌, ℕ, ◌<◌, ◌≤◌, ◌==◌, ◌||◌, ◌&&◌, not, cond, nat_lt, Bool, true, false, List, [], ◌∷◌, length, filter, inl, inr, refl, sym, ap, ap₂, ◌∙◌, subst, arith, eqb-true, eq-eqb, true≢false, ltb-true, lt-ltb}
+use Rattle.std.proofs.Common.{◌≡◌, ℕ, ◌<◌, ◌≤◌, ◌==◌, ◌||◌, ◌&&◌, not, nat_lt, Bool, true, false, List, length, filter, inl, inr, refl, sym, ap, ap₂, ◌∙◌, subst, arith, eqb-true, eq-eqb, true≢false, ltb-true, lt-ltb}
 use Rattle.std.specs.List.{list_any}
 use Rattle.wf_model.specs.declared.chart.Chart.{Chart}
 use Rattle.wf_model.specs.declared.chart.Kind.{Kind}
 use Rattle.wf_model.specs.declared.chart.Kind.TheVariants.{Basic, Or, And}
-use Rattle.wf_model.specs.Tree.{kind, parent, is_or, is_above, is_among, scope, source, target, all_transitions}
+use Rattle.wf_model.specs.Tree.{kind, parent, is_or, is_above, is_among, scope, source, all_transitions}
 use Rattle.wf_semantics.specs.Configuration.{Tree, root, is_in, IsConfiguration}
 use Rattle.wf_semantics.specs.Entry.{entry_tree}
 use Rattle.wf_semantics.specs.Walk.{first_of_scope, new_tree, fired, fired_of}
@@ -36,7 +36,7 @@ and_no_or Basic p q = true≢false (sym q)
 and_no_or Or p q = cc
 and_no_or And p q = true≢false (sym q)
 
-mem_transition : (chart : Chart) (t : ℕ) → t < length chart.transitions → Mem t (all_transitions chart)
+pub mem_transition : (chart : Chart) (t : ℕ) → t < length chart.transitions → Mem t (all_transitions chart)
 mem_transition chart t lt = mem_range 0 (length chart.transitions) t (omega arith) (omega arith)
 
 pub transition_mem : (chart : Chart) (t : ℕ) → Mem t (all_transitions chart) → t < length chart.transitions
@@ -64,7 +64,7 @@ module _ (chart : Chart) (ok : IsChart chart) (enabled : ℕ → Bool) where
   abbrev pub Rules : ℕ → Type 0
   Rules t = Rule (parent chart) (IsAnd chart) (is_above chart) (IsEnabled chart enabled) (scope chart) (source chart) (first_of_scope chart enabled) (entry_tree chart) setting t
 
-  fires_rule : (t : ℕ) → t < length chart.transitions → fires chart enabled t ≡ true → Rules t
+  pub fires_rule : (t : ℕ) → t < length chart.transitions → fires chart enabled t ≡ true → Rules t
   fires_rule t lt h =
       let w = and_both (enabled t) (not (list_any enabled (blockers chart t))) h in
       let none : (b : ℕ) → IsEnabled chart enabled b → blocks chart b t ≡ true → ⊥ =
@@ -81,7 +81,7 @@ module _ (chart : Chart) (ok : IsChart chart) (enabled : ℕ → Bool) where
         ),
       )
 
-  rule_fires : (t : ℕ) → Rules t → fires chart enabled t ≡ true
+  pub rule_fires : (t : ℕ) → Rules t → fires chart enabled t ≡ true
   rule_fires t r = and_true (enabled t) (not (list_any enabled (blockers chart t))) r.0.1
       (to_not (list_any enabled (blockers chart t)) (λ h.
       let w = any_mem enabled (blockers chart t) h in

@@ -1,5 +1,5 @@
 -- Default trees and entry trees.
-use Rattle.std.specs.Prelude.{ℕ, zero, suc, ◌||◌, ◌==◌, Bool, List, [], ◌∷◌, length, unwrap_or, find, slice_index}
+use Rattle.std.specs.Prelude.{ℕ, zero, suc, ◌||◌, ◌==◌, List, [], ◌∷◌, length, unwrap_or, find, slice_index}
 use Rattle.wf_model.specs.declared.chart.Kind.{Kind}
 use Rattle.wf_model.specs.declared.chart.Kind.TheVariants.{Basic, Or, And}
 use Rattle.wf_model.specs.declared.chart.Chart.{Chart}

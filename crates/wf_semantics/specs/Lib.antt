@@ -8,3 +8,5 @@ pub mod Run
 pub mod Admission
 pub mod Bits
 pub mod Flat
+pub mod Picks
+pub mod Laws

@@ -11,6 +11,7 @@ loop-at-preserved c =
     let token : token_at (get_or c.args.text.now c.loop-at.at 0) (drop (c.loop-at.at + 1) c.args.text.now) ≡ Some (c.in-Some.kind, c.in-Some.rest) = rw take_rest at (sym c.in-Some.ensures.exact) in
     let few : length c.loop-at.found.items ≢ MAX_TOKENS = search rules in
     record {
+      few = rw (c.in_ok-push.ensures.items, length-append) (omega (arith, few, c.loop-at.invariant.few));
       within = omega (arith, c.in-Some.ensures.within, length-drop (c.loop-at.at + 1) c.args.text.now);
       rest = rw (c.in_ok-push.ensures.items, length-append, c.if-in_comment.false)
           (token_step c.loop-at.at c.in-Some.rest c.args.text.now c.loop-at.found.items c.in-Some.kind 0 c.loop-at-test.true blank c.if-byte-eq35.false token few

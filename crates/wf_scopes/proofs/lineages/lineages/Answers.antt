@@ -12,4 +12,4 @@ loop-state-preserved c =
     let rows : c.as_slice.result.now ≡ map (ancestor_ids c.args.chart.now) (range_with_len 0 c.loop-state.state-index) = c.as_slice.ensures ∙ c.loop-state.invariant in
     c.in_ok-push.ensures.ok
     ∙ row_more (ancestor_ids c.args.chart.now) c.loop-state.state-index c.loop-state.table c.in_ok-ids.ids c.loop-state.invariant
-      (c.in_ok-ids.ensures ∙ line_read c.args.chart.now c.as_slice.result.now c.loop-state.state-index c.state-item.result c.requires rows within item)
+    (c.in_ok-ids.ensures ∙ line_read c.args.chart.now c.as_slice.result.now c.loop-state.state-index c.state-item.result c.requires rows within item)

@@ -22,7 +22,7 @@ loop-transition-preserved c =
     let to = target_read c.args.chart.now c.loop-transition.transition-index c.transition-item.result within item in
     c.in_ok-push.ensures.ok
     ∙ row_more (λ t. state_id (scope c.args.chart.now t)) c.loop-transition.transition-index c.loop-transition.table c.scope_of.result c.loop-transition.invariant
-      (ap state_id (c.scope_of.ensures ∙ rw (← from, ← to) refl))
+    (ap state_id (c.scope_of.ensures ∙ rw (← from, ← to) refl))
 
 pub returns : goal.returns
 unfolding scopes_of

@@ -1,0 +1,10 @@
+use Rattle.std.proofs.Common.{◌≡◌, arith, rules, ◌==◌, filter, sym, ap, ◌∙◌}
+use Rattle.wf_audit.proofs.Few.{few_units}
+use Rattle.wf_audit.proofs.Sights.{pieces_more}
+use Rattle.wf_audit.proofs.central.in_unit_order.Goals as goal
+
+pub overflow_cast-unit : goal.overflow_cast-unit
+overflow_cast-unit c = omega (arith, few_units c.args.chart.now c.requires)
+
+pub loop-unit-preserved : goal.loop-unit-preserved
+loop-unit-preserved c = ?

@@ -1,0 +1,265 @@
+//! The passes of a step: which transitions are ready, which are chosen, which fire, and which states are in then.
+ghost use Rattle.std.specs.Prelude.{◌≡◌, ◌<◌, ℕ, None, map, filter, length, is_some, IsTrue, IfOk, IfSome};
+ghost use Rattle.wf_model.specs.Plain.{is_plain};
+ghost use Rattle.wf_semantics.specs.Run.{CentralState};
+ghost use Rattle.wf_central.specs.Made.{IsShown, MakesStep};
+ghost use Rattle.std.specs.List.{list_any};
+ghost use Rattle.wf_model.specs.Accepted.{IsAccepted};
+ghost use Rattle.wf_model.specs.Tree.{all_states, all_transitions, ancestors};
+ghost use Rattle.wf_semantics.specs.Run.{is_happening};
+ghost use Rattle.wf_scopes.specs.Tables.{tables_of, ancestor_ids};
+ghost use Rattle.wf_central.specs.Kept.{bit};
+ghost use Rattle.wf_central.specs.Passes.{trans_id, comes, is_ready_by, ready_by, at, chosen_by, firing_by, fired_by, first_ids, bit_by, moved_by};
+
+use std::alloc::Global;
+use wf_model::{Chart, Entry, EventId, List, NoMemory, Outer, StateId, TransId, Transition};
+use wf_scopes::Scopes;
+
+fn is_happening(outer: &Outer, e: EventId) -> bool
+    ensures { result ≡ is_happening e.0 outer.now }
+{
+    match outer {
+        Outer::Happen(f) => f.0 == e.0,
+        Outer::Complete { .. } => false,
+    }
+}
+
+fn happens(outer: &[Entry], e: EventId) -> bool
+    ensures { result ≡ list_any (λ x. is_happening e.0 x.outer) outer.now }
+{
+    outer.iter().any(|x| is_happening(&x.outer, e))
+}
+
+fn comes(outer: &[Entry], event: Option<EventId>) -> bool
+    ensures { result ≡ comes outer.now event }
+{
+    match event {
+        Some(e) => happens(outer, e),
+        None => true,
+    }
+}
+
+fn is_set(bits: &[bool], at: usize) -> bool
+    ensures { result ≡ bit bits.now at }
+{
+    match bits.get(at) {
+        Some(is_set) => *is_set,
+        None => false,
+    }
+}
+
+fn is_ready(active: &[bool], outer: &[Entry], transition: &Transition) -> bool
+    ensures { result ≡ is_ready_by active.now outer.now transition.now }
+{
+    is_set(active, transition.source.0 as usize) && comes(outer, transition.event)
+}
+
+/// For each transition, whether its source is in and its event comes.
+pub fn ready(
+    alloc: Global,
+    chart: &Chart,
+    active: &[bool],
+    outer: &[Entry],
+) -> Result<List<bool>, NoMemory>
+    ensures { IfOk result (λ bits. bits ≡ map (ready_by chart.now active.now outer.now) (all_transitions chart.now)) }
+{
+    let mut bits = List::new(alloc);
+    for transition in chart.transitions.as_slice() {
+        bits.push(is_ready(active, outer, transition))?;
+    }
+    Ok(bits)
+}
+
+// No transition, for each state.
+fn none_chosen(alloc: Global, chart: &Chart) -> Result<List<Option<TransId>>, NoMemory>
+    ensures { IfOk result (λ table. table ≡ map (λ s. None) (all_states chart.now)) }
+{
+    let mut table = List::new(alloc);
+    for _state in chart.states.as_slice() {
+        table.push(None)?;
+    }
+    Ok(table)
+}
+
+/// For each state, the first ready transition whose scope it is.
+pub fn chosen(
+    alloc: Global,
+    chart: &Chart,
+    scopes: &Scopes,
+    ready: &[bool],
+) -> Result<List<Option<TransId>>, NoMemory>
+    requires of { scopes.now ≡ tables_of chart.now }
+    requires accepted { IsAccepted chart.now }
+    ensures { IfOk result (λ table. table ≡ map (chosen_by chart.now ready.now) (all_states chart.now)) }
+{
+    let mut table = none_chosen(alloc, chart)?;
+    let mut t = chart.transitions.len();
+    while t > 0 {
+        t -= 1;
+        if is_set(ready, t) {
+            let id = TransId(t as u32);
+            table.set(scopes.scope(id).0 as usize, Some(id));
+        }
+    }
+    Ok(table)
+}
+
+fn entry_at(table: &[Option<TransId>], s: StateId) -> Option<TransId>
+    ensures { result ≡ at table.now s.0 }
+{
+    match table.get(s.0 as usize) {
+        Some(entry) => *entry,
+        None => None,
+    }
+}
+
+fn is_held(chosen: &[Option<TransId>], above: &[StateId]) -> bool
+    ensures { result ≡ list_any (λ a. is_some (at chosen.now a.0)) above.now }
+{
+    above.iter().any(|a| entry_at(chosen, *a).is_some())
+}
+
+fn firing_at(
+    chart: &Chart,
+    scopes: &Scopes,
+    chosen: &[Option<TransId>],
+    s: StateId,
+) -> Option<TransId>
+    requires of { scopes.now ≡ tables_of chart.now }
+    requires in_range { s.0 < length chart.now.states }
+    ensures { result ≡ firing_by chart.now chosen.now s.0 }
+{
+    if is_held(chosen, scopes.lineage(s)) {
+        None
+    } else {
+        entry_at(chosen, s)
+    }
+}
+
+/// For each state, what fires there: what is chosen, where nothing is chosen above.
+pub fn firing(
+    alloc: Global,
+    chart: &Chart,
+    scopes: &Scopes,
+    chosen: &[Option<TransId>],
+) -> Result<List<Option<TransId>>, NoMemory>
+    requires of { scopes.now ≡ tables_of chart.now }
+    requires accepted { IsAccepted chart.now }
+    ensures { IfOk result (λ table. table ≡ map (firing_by chart.now chosen.now) (all_states chart.now)) }
+{
+    let mut table = List::new(alloc);
+    for s in 0..chart.states.len() {
+        table.push(firing_at(chart, scopes, chosen, StateId(s as u32)))?;
+    }
+    Ok(table)
+}
+
+fn is_fired(chart: &Chart, scopes: &Scopes, firing: &[Option<TransId>], t: TransId) -> bool
+    requires of { scopes.now ≡ tables_of chart.now }
+    requires in_range { t.0 < length chart.now.transitions }
+    ensures { result ≡ fired_by chart.now firing.now t.0 }
+{
+    match entry_at(firing, scopes.scope(t)) {
+        Some(u) => u.0 == t.0,
+        None => false,
+    }
+}
+
+/// The transitions that fire, ascending.
+pub fn fired(
+    alloc: Global,
+    chart: &Chart,
+    scopes: &Scopes,
+    firing: &[Option<TransId>],
+) -> Result<List<TransId>, NoMemory>
+    requires of { scopes.now ≡ tables_of chart.now }
+    requires accepted { IsAccepted chart.now }
+    ensures { IfOk result (λ ids. ids ≡ map trans_id (filter (fired_by chart.now firing.now) (all_transitions chart.now))) }
+{
+    let mut ids = List::new(alloc);
+    for t in 0..chart.transitions.len() {
+        let id = TransId(t as u32);
+        if is_fired(chart, scopes, firing, id) {
+            ids.push(id)?;
+        }
+    }
+    Ok(ids)
+}
+
+// What fires at the first of these states at which something does.
+fn first_of(firing: &[Option<TransId>], above: &[StateId]) -> Option<TransId>
+    ensures { result ≡ first_ids firing.now above.now }
+{
+    for a in above {
+        if let Some(t) = entry_at(firing, *a) {
+            return Some(t);
+        }
+    }
+    None
+}
+
+fn is_in_then(
+    chart: &Chart,
+    scopes: &Scopes,
+    active: &[bool],
+    firing: &[Option<TransId>],
+    z: StateId,
+) -> bool
+    requires of { scopes.now ≡ tables_of chart.now }
+    requires in_range { z.0 < length chart.now.states }
+    requires known { (s : ℕ) → IfSome (at firing.now s) (λ t. t.0 < length chart.now.transitions) }
+    ensures { result ≡ moved_by chart.now active.now firing.now z.0 }
+{
+    match first_of(firing, scopes.lineage(z)) {
+        Some(t) => scopes.enters(t, z),
+        None => is_set(active, z.0 as usize),
+    }
+}
+
+/// For each state, whether it is in after the transitions fired.
+pub fn moved(
+    alloc: Global,
+    chart: &Chart,
+    scopes: &Scopes,
+    active: &[bool],
+    firing: &[Option<TransId>],
+) -> Result<List<bool>, NoMemory>
+    requires of { scopes.now ≡ tables_of chart.now }
+    requires accepted { IsAccepted chart.now }
+    requires known { (s : ℕ) → IfSome (at firing.now s) (λ t. t.0 < length chart.now.transitions) }
+    ensures { IfOk result (λ bits. bits ≡ map (moved_by chart.now active.now firing.now) (all_states chart.now)) }
+{
+    let mut bits = List::new(alloc);
+    for z in 0..chart.states.len() {
+        bits.push(is_in_then(chart, scopes, active, firing, StateId(z as u32)))?;
+    }
+    Ok(bits)
+}
+
+/// What a step makes: the transitions that fired, ascending, and for each state whether it is in then.
+#[derive(Debug, Drop)]
+pub struct AfterStep {
+    pub fired: List<TransId>,
+    pub active: List<bool>,
+}
+
+/// All passes of a step of a plain chart, in which these outers come.
+pub fn pass_all(
+    alloc: Global,
+    chart: &Chart,
+    scopes: &Scopes,
+    active: &[bool],
+    outer: &[Entry],
+) -> Result<AfterStep, NoMemory>
+    requires of { scopes.now ≡ tables_of chart.now }
+    requires accepted { IsAccepted chart.now }
+    requires plain { IsTrue (is_plain chart.now) }
+    ensures { (c : CentralState) → IsShown chart.now c active.now → IfOk result (MakesStep chart.now c outer.now) }
+{
+    let ready = ready(alloc, chart, active, outer)?;
+    let chosen = chosen(alloc, chart, scopes, ready.as_slice())?;
+    let firing = firing(alloc, chart, scopes, chosen.as_slice())?;
+    let fired = fired(alloc, chart, scopes, firing.as_slice())?;
+    let active = moved(alloc, chart, scopes, active, firing.as_slice())?;
+    Ok(AfterStep { fired, active })
+}

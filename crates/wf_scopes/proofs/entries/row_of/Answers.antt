@@ -1,0 +1,15 @@
+use Rattle.std.proofs.Common.{◌≡◌, ◌<◌, arith, length, ◌∙◌, rules}
+use Rattle.wf_model.specs.declared.limits.TheConstants.{MAX_STATES}
+use Rattle.wf_semantics.specs.Configuration.{is_in}
+use Rattle.wf_semantics.specs.Entry.{entry_tree}
+use Rattle.wf_semantics.proofs.Facts.{chart_of}
+use Rattle.wf_scopes.proofs.Rows.{row_more}
+use Rattle.wf_scopes.proofs.entries.row_of.Goals as goal
+
+pub overflow_cast-z : goal.overflow_cast-z
+overflow_cast-z c = omega (arith, (chart_of c.args.chart.now c.requires.accepted).few_states)
+
+pub loop-z-preserved : goal.loop-z-preserved
+loop-z-preserved c =
+    c.in_ok-push.ensures.ok
+    ∙ row_more (λ s. is_in s (entry_tree c.args.chart.now c.args.t.0)) c.loop-z.z c.loop-z.row c.is_entered-enters.result c.loop-z.invariant c.is_entered-enters.ensures

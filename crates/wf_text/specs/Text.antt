@@ -1,0 +1,56 @@
+-- chart = chart NAME ; { decl } [ state ] { trans }
+use Rattle.std.specs.Prelude.{◌≡◌, ◌≢◌, ℕ, if◌then◌else◌, nat_lt, List, [], length, Result, Ok, Err}
+use Rattle.wf_model.specs.declared.chart.Chart.{Chart}
+use Rattle.wf_model.specs.declared.chart.Transition.{Transition}
+use Rattle.wf_lex.specs.declared.token.Token.{Token}
+use Rattle.wf_lex.specs.declared.token.LexFault.{LexFault}
+use Rattle.wf_lex.specs.Lex.{tokens_of}
+use Rattle.wf_text.specs.declared.fault.TextFault.{TextFault}
+use Rattle.wf_text.specs.declared.fault.TextFault.TheVariants.{NoMemory}
+use Rattle.wf_text.specs.declared.piece.Piece.TheVariants as pieces
+use Rattle.wf_text.specs.Fault.{fault_of}
+use Rattle.wf_text.specs.Input.{Input, Outcome, Parser, ◌>>=◌, ◌>>◌, pure, syntax, start_of, expect, name}
+use Rattle.wf_text.specs.Declarations.{declarations}
+use Rattle.wf_text.specs.States.{root}
+use Rattle.wf_text.specs.Transitions.{transitions}
+
+-- no token is left
+abbrev pub finished : Parser (Unit {0})
+finished = λ i. if nat_lt 0 (length i.left) then syntax i else pure tt i
+
+-- chart NAME ; { decl } [ state ] { trans }: the name and the transitions
+unfoldable pub contents : Parser (List ℕ × List Transition)
+contents = do
+  expect pieces.Chart
+  chart_name ← name
+  expect pieces.Semicolon
+  declarations
+  root
+  found ← transitions
+  finished
+  pure (chart_name, found)
+
+-- the chart of all that was read
+unfoldable pub chart_with : List ℕ → List Transition → Input → Chart
+chart_with chart_name found i = record { name = chart_name; units = i.units; events = i.events; vars = []; acts = []; states = i.states; transitions = found }
+
+abbrev pub chart_by : Outcome (List ℕ × List Transition) → Result Chart TextFault
+chart_by (Ok p) = Ok (chart_with p.0.0 p.0.1 p.1)
+chart_by (Err e) = Err e
+
+abbrev pub chart_from : List ℕ → Result (List Token) LexFault → Result Chart TextFault
+chart_from text (Ok tokens) = chart_by (contents (start_of text tokens))
+chart_from text (Err e) = Err (fault_of e)
+
+-- the chart that the text means, or the first fault of its tokens, or else of its grammar
+unfoldable pub chart_of : List ℕ → Result Chart TextFault
+chart_of text = chart_from text (tokens_of text)
+
+-- the text means the chart
+abbrev pub Means : List ℕ → Chart → Type 0
+Means text chart = chart_of text ≡ Ok chart
+
+-- what a function that reads a chart answers beside what it is to answer: want of memory is free
+abbrev pub Gives : Result Chart TextFault → Result Chart TextFault → Type 0
+Gives (Ok chart) wanted = wanted ≡ Ok chart
+Gives (Err e) wanted = e ≢ NoMemory → wanted ≡ Err e

@@ -1,0 +1,55 @@
+//! Transitions.
+ghost use Rattle.std.specs.Prelude.{length};
+ghost use Rattle.wf_text.specs.Input.{Reads};
+ghost use Rattle.wf_text.specs.Transitions as spec;
+
+use crate::TextFault;
+use crate::cursor::Cursor;
+use crate::piece::Piece;
+use std::alloc::Global;
+use wf_model::{EventId, List, Transition};
+
+#[tactic(auto, unfolding(crate::specs::Transitions::caused))]
+fn caused(cursor: &mut Cursor<'_>) -> Result<Option<EventId>, TextFault>
+    ensures { Reads (spec.caused cursor.old) result cursor.new }
+{
+    if cursor.eat(Piece::On) {
+        Ok(Some(cursor.event()?))
+    } else {
+        Ok(None)
+    }
+}
+
+#[tactic(auto, unfolding(crate::specs::Transitions::transition))]
+fn transition(alloc: Global, cursor: &mut Cursor<'_>) -> Result<Transition, TextFault>
+    ensures { Reads (spec.transition cursor.old) result cursor.new }
+{
+    cursor.expect(Piece::From)?;
+    let source = cursor.state()?;
+    cursor.expect(Piece::To)?;
+    let target = cursor.state()?;
+    let event = caused(cursor)?;
+    cursor.expect(Piece::Semicolon)?;
+    Ok(Transition {
+        source,
+        target,
+        event,
+        guard: None,
+        actions: List::new(alloc),
+    })
+}
+
+/// Reads all transitions that come next.
+pub fn transitions(alloc: Global, cursor: &mut Cursor<'_>) -> Result<List<Transition>, TextFault>
+    ensures { Reads (spec.transitions cursor.old) result cursor.new }
+{
+    let mut found = List::new(alloc);
+    for _turn in 0..cursor.left() {
+        if !cursor.sees(Piece::From) {
+            return Ok(found);
+        }
+        let next = transition(alloc, cursor)?;
+        found.push(next)?;
+    }
+    Ok(found)
+}

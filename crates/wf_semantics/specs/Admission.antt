@@ -1,5 +1,5 @@
 -- The admission rule: which outers a unit may admit.
-use Rattle.std.specs.Prelude.{ℕ, ◌==◌, ◌&&◌, ◌||◌, ◌++◌, nat_le, not, Bool, true, false, List, [], ◌∷◌, map, Option, Some, None, Result, Ok, Err, is_ok, is_some, slice_get, if◌then◌else◌}
+use Rattle.std.specs.Prelude.{ℕ, ◌==◌, ◌&&◌, ◌||◌, not, Bool, true, false, List, [], ◌∷◌, map, Option, Some, None, Result, Ok, Err, slice_get, if◌then◌else◌}
 use Rattle.std.specs.Option.{option_map_or}
 use Rattle.std.specs.List.{list_any}
 use Rattle.wf_model.specs.declared.ids.VarId.{VarId}
@@ -61,19 +61,3 @@ may_be_admitted chart c pending u (Complete n a outputs) =
     else if is_closed (item_at (c.items u) n) || is_pending pending u n then Err AlreadyDone
     else if not (are_outputs_of chart a.0 outputs) then Err WrongOutput
     else Ok tt
-
--- each of these may be admitted, where those before it are pending
-abbrev pub may_follow : Chart → CentralState → List Entry → List Entry → Bool
-may_follow chart c pending [] = true
-may_follow chart c pending (x ∷ xs) =
-    is_ok (may_be_admitted chart c pending x.unit.0 x.outer) && may_follow chart c (pending ++ x ∷ []) xs
-
--- no unit's entry stands before one of a smaller unit
-abbrev pub are_in_order : List Entry → Bool
-are_in_order [] = true
-are_in_order (x ∷ []) = true
-are_in_order (x ∷ y ∷ ys) = nat_le x.unit.0 y.unit.0 && are_in_order (y ∷ ys)
-
--- the entries of a step: in the order of units, and each may be admitted
-unfoldable pub may_come : Chart → CentralState → List Entry → Bool
-may_come chart c entries = are_in_order entries && may_follow chart c [] entries

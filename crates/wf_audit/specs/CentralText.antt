@@ -86,12 +86,19 @@ after_line chart s (lines.Outer unit outer) = after_outer chart s unit outer
 after_line chart s lines.Step = after_step chart s
 after_line chart s lines.Show = s
 
--- the lines of the replies from line n on; a line that says nothing has no reply
+-- what line n adds to the text; a line that says nothing has no reply
+abbrev pub line_text : Chart → Standing → ℕ → Option CentralLine → List ℕ
+line_text chart s n None = []
+line_text chart s n (Some line) = numbered n (reply_text chart (reply_of chart s line))
+
+abbrev pub after_said : Chart → Standing → Option CentralLine → Standing
+after_said chart s None = s
+after_said chart s (Some line) = after_line chart s line
+
+-- the replies from line n on
 abbrev pub replies_from : Chart → Standing → ℕ → List (Option CentralLine) → List ℕ
 replies_from chart s n [] = []
-replies_from chart s n (None ∷ more) = replies_from chart s (n + 1) more
-replies_from chart s n (Some line ∷ more) =
-    numbered n (reply_text chart (reply_of chart s line)) ++ replies_from chart (after_line chart s line) (n + 1) more
+replies_from chart s n (said ∷ more) = line_text chart s n said ++ replies_from chart (after_said chart s said) (n + 1) more
 
 abbrev pub first_standing : Chart → Standing
 first_standing chart = record { central = first_state chart; pending = [] }

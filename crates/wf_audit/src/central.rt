@@ -161,6 +161,32 @@ impl Run {
             CentralLine::Show => sight(alloc, checked.chart(), &self.central),
         }
     }
+
+    // Appends the reply to what the line with this number says.
+    fn append(
+        &mut self,
+        alloc: Global,
+        checked: &Checked,
+        text: &mut Bytes,
+        number: u32,
+        said: &Option<CentralLine>,
+    ) -> Result<(), NoMemory>
+        requires plain { IsTrue (is_plain checked.now) }
+        requires of { IsOf checked.now self.old.central }
+        requires few { self.old.central.taken < MAX_STEPS }
+        ensures text { OnOk result (text.new ≡ text.old ++ spec.line_text checked.now (standing_of checked.now self.old) number said.now) }
+        ensures standing { OnOk result (standing_of checked.now self.new ≡ spec.after_said checked.now (standing_of checked.now self.old) said.now) }
+        ensures of { IsOf checked.now self.new.central }
+        ensures taken { OnOk result (self.new.central.taken ≤ self.old.central.taken + 1) }
+    {
+        match said {
+            Some(line) => {
+                let reply = self.reply(alloc, checked, line)?;
+                append_reply(alloc, text, checked.chart(), number, &reply)
+            }
+            None => Ok(()),
+        }
+    }
 }
 
 /// The text of the central run of a plain chart: the reply to each line of the script that says something. Grows with
@@ -180,10 +206,7 @@ pub fn run_central(
     let mut number = 0;
     for said in script {
         number += 1;
-        if let Some(line) = said {
-            let reply = run.reply(alloc, checked, line)?;
-            append_reply(alloc, &mut text, checked.chart(), number, &reply)?;
-        }
+        run.append(alloc, checked, &mut text, number, said)?;
     }
     Ok(text)
 }

@@ -8,7 +8,7 @@ ghost use Rattle.wf_audit.specs.Script as spec;
 
 use crate::lines::split_line;
 use crate::names::Names;
-use std::alloc::{AllocError, AllocFailed, Global};
+use std::alloc::Global;
 use thiserror::Error;
 use wf_lex::{LexFault, Token, tokens, tokens_are_slices};
 use wf_model::limits::MAX_INPUT;

@@ -1,4 +1,4 @@
-use Rattle.std.proofs.Common.{◌≡◌, arith, rules, ◌==◌, filter, sym, ap, ◌∙◌}
+use Rattle.std.proofs.Common.{◌≡◌, ◌++◌, ◌==◌, filter, arith, sym, ap, ◌∙◌}
 use Rattle.wf_audit.proofs.Few.{few_units}
 use Rattle.wf_audit.proofs.Sights.{pieces_more}
 use Rattle.wf_audit.proofs.central.in_unit_order.Goals as goal
@@ -7,4 +7,6 @@ pub overflow_cast-unit : goal.overflow_cast-unit
 overflow_cast-unit c = omega (arith, few_units c.args.chart.now c.requires)
 
 pub loop-unit-preserved : goal.loop-unit-preserved
-loop-unit-preserved c = ?
+loop-unit-preserved c =
+    c.in_ok-append_of.ensures ∙ ap (λ l. l ++ filter (λ x. x.unit.0 == c.loop-unit.unit) c.args.entries.now) c.loop-unit.invariant
+    ∙ sym (pieces_more (λ u. filter (λ x. x.unit.0 == u) c.args.entries.now) c.loop-unit.unit)

@@ -1,6 +1,12 @@
-use Rattle.std.proofs.Common.{◌≡◌, rules}
+use Rattle.std.proofs.Common.{◌≡◌, ◌∙◌, ap, ap₂}
+use Rattle.wf_central.specs.Kept.{central_of, notes_of}
+use Rattle.wf_audit.specs.CentralText.{in_unit_order}
 use Rattle.wf_audit.proofs.Sights.{step_is}
 use Rattle.wf_audit.proofs.central.Run.step.Goals as goal
 
 pub returns-clause-reply : goal.returns-clause-reply
-returns-clause-reply c = ?
+returns-clause-reply c =
+    step_is c.args.checked.now c.args.self.now.central c.args.self.now.pending c.in_ok-coming.coming c.taken.result c.in_ok-notes.notes
+    (c.taken.ensures ∙ c.in_ok-notes.ensures.taken)
+    (c.in_ok-coming.ensures ∙ ap₂ in_unit_order c.chart.ensures.same c.as_slice.ensures)
+    (c.in_ok-notes.ensures.notes ∙ ap (notes_of c.args.checked.now (central_of c.args.checked.now c.args.self.now.central)) c.as_slice-2.ensures)

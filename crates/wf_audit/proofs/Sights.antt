@@ -44,6 +44,6 @@ pub replies_on : (chart : Chart) (s t : Standing) (n i : ℕ) (script : List (Op
 replies_on chart s t n i script said old new total lt is next wrote before =
     let rest = λ (u : Standing). replies_from chart u (n + 1) (drop (i + 1) script) in
     let here : replies_from chart s n (drop i script) ≡ line_text chart s n said ++ rest (after_said chart s said) =
-        at_drop_more (replies_from chart s n) script i said lt ∙ ap (λ (x : Option CentralLine). replies_from chart s n (x ∷ drop (i + 1) script)) (sym is) in
+    at_drop_more (replies_from chart s n) script i said lt ∙ ap (λ (x : Option CentralLine). replies_from chart s n (x ∷ drop (i + 1) script)) (sym is) in
     ap (λ (l : List ℕ). l ++ rest t) wrote ∙ append_assoc old (line_text chart s n said) (rest t)
     ∙ ap (λ (u : Standing). old ++ (line_text chart s n said ++ rest u)) next ∙ ap (λ (l : List ℕ). old ++ l) (sym here) ∙ before

@@ -11,9 +11,7 @@ use crate::reply::{Reply, append_reply};
 use crate::script::CentralLine;
 use std::alloc::Global;
 use wf_central::CentralState;
-use wf_model::{
-    Bytes, Chart, Checked, Duplicate, Entry, List, NoMemory, Outer, StateId, UnitId,
-};
+use wf_model::{Bytes, Chart, Checked, Duplicate, Entry, List, NoMemory, Outer, StateId, UnitId};
 
 /// Where a run stands: its state, and the outers that were admitted for the next step.
 #[derive(Debug, Drop)]
@@ -110,7 +108,9 @@ impl Run {
         ensures standing { OnOk result (standing_of checked.now self.new ≡ spec.after_outer checked.now (standing_of checked.now self.old) unit outer.now) }
         ensures central { self.new.central ≡ self.old.central }
     {
-        let admitted = self.central.may_admit(checked, self.pending.as_slice(), unit, outer);
+        let admitted = self
+            .central
+            .may_admit(checked, self.pending.as_slice(), unit, outer);
         match admitted {
             Ok(()) => {
                 let outer = outer.copy(alloc)?;

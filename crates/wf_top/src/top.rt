@@ -24,7 +24,7 @@ fn is_central(words: &[Bytes]) -> bool
 // Writes the text, and ends with the status where that succeeds.
 fn finish<K: Sink>(sink: &mut K, status: Status, text: &[u8]) -> Status
     ensures { ((result ≡ WriteFault) × Rose (K.faults sink.old) (K.faults sink.new)
-            × ((n : ℕ) × (n ≤ length text.now) × Appends (K.held sink.old) (K.held sink.new) (take n text.now)))
+        × ((n : ℕ) × (n ≤ length text.now) × Appends (K.held sink.old) (K.held sink.new) (take n text.now)))
         ⊎ ((result ≡ status) × (K.faults sink.new ≡ K.faults sink.old) × Appends (K.held sink.old) (K.held sink.new) text.now) }
 {
     match write_all(sink, text) {

@@ -1,0 +1,43 @@
+//! Runs a workflow chart: gives the words of the command line, standard input, standard output and the clock to the
+//! top call, and ends with the number of its status.
+#![tactic(auto)]
+
+use std::io::ErrorKind;
+use std::process::ExitCode;
+use std::env;
+use wf_io::{StdClock, StdSink, StdSource};
+use wf_model::{Bytes, List, NoMemory, Status};
+use wf_top::mentor;
+
+/// The words after the program's name. None of them where one isn't text: no command has no words.
+fn words(rt: &HostRuntime) -> Result<List<Bytes>, NoMemory> {
+    let alloc = rt.alloc();
+    let mut words = List::new(alloc);
+    match env::args(rt) {
+        Ok(args) => {
+            for word in args.skip(1) {
+                words.push(List::from_slice(alloc, word.as_bytes())?)?;
+            }
+            Ok(words)
+        }
+        Err(error) if error.kind() == ErrorKind::OutOfMemory => Err(NoMemory),
+        Err(_) => Ok(words),
+    }
+}
+
+/// Does what the words say. Where memory runs out while they are collected, nothing is read or written.
+fn run(rt: &HostRuntime) -> Result<Status, NoMemory> {
+    let words = words(rt)?;
+    Ok(mentor(
+        rt.alloc(),
+        &words,
+        &mut StdSource::new(rt.stdin()),
+        &mut StdSink::new(rt.stdout()),
+        &mut StdClock::new(rt),
+    ))
+}
+
+fn main(rt: HostRuntime) -> ExitCode {
+    let status = run(&rt).unwrap_or(Status::NoMemory);
+    ExitCode::from(status.number())
+}

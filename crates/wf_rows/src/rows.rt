@@ -1,0 +1,103 @@
+//! Inputs over ends that never fail.
+use crate::run::{Ends, input_of, run};
+use std::test::Fail;
+use wf_model::limits::MAX_INPUT;
+use wf_model::{List, Status};
+
+/// One state.
+const SINGLE: &str = "chart m; unit a; or R at a { basic S at a; }\n";
+
+/// Transitions of which an outer one wins, then the lower number of one scope.
+const PRIORITIES: &str = "# PRI
+chart pri; unit a; event e at a; event f at a; event g at a;
+or R at a { or X at a { basic X1 at a; basic X2 at a; } basic Y at a; basic Z at a; }
+from X1 to X2 on e;
+from X to Y on e;
+from X to Z on e;
+from X1 to X2 on g;
+from X to X on f;
+";
+
+/// Two sides, and a transition from one into the other.
+const SIDES: &str = "# REG
+chart reg; unit a; event e at a; event f at a;
+or R at a { and A at a {
+  or B at a { basic B1 at a; basic B2 at a; }
+  or C at a { basic C1 at a; basic C2 at a; } } }
+from B1 to B2 on e;
+from B2 to C2 on f;
+";
+
+#[test]
+fn central(rt: HostRuntime) -> Result<(), Fail> {
+    let rows = [
+        (SINGLE, "", ""),
+        (
+            SINGLE,
+            "---\nstep\nshow\n",
+            "1: step 1 fired starts\n2: after 1 in R S vars raised\n",
+        ),
+        (
+            PRIORITIES,
+            "---\nouter a event e\nstep\nshow\n",
+            "1: ok\n2: step 1 fired t1 starts\n3: after 1 in R Y vars raised\n",
+        ),
+        (
+            PRIORITIES,
+            "---\nouter a event g\nstep\nouter a event f\nstep\nshow\n",
+            "1: ok\n2: step 1 fired t3 starts\n3: ok\n4: step 2 fired t4 starts\n5: after 2 in R X X1 vars raised\n",
+        ),
+        (
+            SIDES,
+            "---\nouter a event e\nstep\nouter a event f\nstep\nshow\n",
+            "1: ok\n2: step 1 fired t0 starts\n3: ok\n4: step 2 fired t1 starts\n5: after 2 in R A B B1 C C2 vars raised\n",
+        ),
+    ];
+    for (chart, script, text) in rows {
+        for piece in [1, 4096] {
+            let input = input_of(rt.alloc(), chart, script)?;
+            let ends = Ends {
+                piece,
+                failing_reads: &[],
+                failing_writes: &[],
+            };
+            let outcome = run(rt.alloc(), "central", input, ends)?;
+            assert_eq!(rt; outcome.status, Status::Ok, "at {script}");
+            assert_eq!(rt; outcome.text.as_slice(), text.as_bytes(), "at {script}");
+        }
+    }
+    Ok(())
+}
+
+#[test]
+fn refused(rt: HostRuntime) -> Result<(), Fail> {
+    let rows = [
+        ("", 0, Status::Words, "refused words\n"),
+        ("play", 0, Status::Words, "refused words\n"),
+        ("central central", 0, Status::Words, "refused words\n"),
+        ("central", 0, Status::Unbuilt, "refused unbuilt\n"),
+        ("central", MAX_INPUT, Status::Unbuilt, "refused unbuilt\n"),
+        (
+            "central",
+            MAX_INPUT + 1,
+            Status::Limit,
+            "refused limit input\n",
+        ),
+    ];
+    for (words, blanks, status, text) in rows {
+        let input = List::from_vec(vec![in rt.alloc(); b' '; blanks]?);
+        let ends = Ends {
+            piece: 4096,
+            failing_reads: &[],
+            failing_writes: &[],
+        };
+        let outcome = run(rt.alloc(), words, input, ends)?;
+        assert_eq!(rt; outcome.status, status, "at {words}, {blanks}");
+        assert_eq!(rt;
+            outcome.text.as_slice(),
+            text.as_bytes(),
+            "at {words}, {blanks}"
+        );
+    }
+    Ok(())
+}

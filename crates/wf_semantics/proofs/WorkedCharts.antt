@@ -1,15 +1,13 @@
 -- Worked runs, computed from the definitions.
-use Rattle.std.proofs.Common.{◌≡◌, ℕ, true, List, [], ◌∷◌, ◌++◌, Option, Some, None, Result, Ok, Err, refl}
-use Rattle.std.specs.Prelude.{pos, ℤ}
+use Rattle.std.proofs.Common.{◌≡◌, ℕ, true, List, [], ◌∷◌, Option, Some, None, Ok, Err, refl}
+use Rattle.std.specs.Prelude.{pos}
 use Rattle.wf_model.specs.declared.chart.Kind.{Kind}
 use Rattle.wf_model.specs.declared.chart.Kind.TheVariants.{Basic, Or, And}
 use Rattle.wf_model.specs.declared.chart.State.{State}
 use Rattle.wf_model.specs.declared.chart.Event.{Event}
-use Rattle.wf_model.specs.declared.chart.Activity.{Activity}
-use Rattle.wf_model.specs.declared.chart.Variable.{Variable}
 use Rattle.wf_model.specs.declared.chart.Transition.{Transition}
 use Rattle.wf_model.specs.declared.chart.Action.{Action}
-use Rattle.wf_model.specs.declared.chart.Action.TheVariants.{Assign, Raise, Start}
+use Rattle.wf_model.specs.declared.chart.Action.TheVariants.{Assign, Start}
 use Rattle.wf_model.specs.declared.chart.Chart.{Chart}
 use Rattle.wf_model.specs.declared.value.Val.{Val}
 use Rattle.wf_model.specs.declared.value.Val.TheVariants as v
@@ -23,7 +21,7 @@ use Rattle.wf_model.specs.declared.outer.OuterFault.TheVariants.{WrongUnit, NoIt
 use Rattle.wf_model.specs.declared.outer.Entry.{Entry}
 use Rattle.wf_model.specs.Tree.{children, ancestors_by}
 use Rattle.wf_model.specs.Values.{on_two}
-use Rattle.wf_semantics.specs.Configuration.{Tree, Trees, Leaf, OrNode, AndNode, NoTrees, More}
+use Rattle.wf_semantics.specs.Configuration.{Tree, Leaf, OrNode, AndNode, NoTrees, More}
 use Rattle.wf_semantics.specs.Entry.{grown}
 use Rattle.wf_semantics.specs.Walk.{walked, all_walked, fired, all_fired}
 use Rattle.wf_semantics.specs.Snapshot.{is_enabled}

@@ -1,10 +1,9 @@
 -- The central run: the state of a chart step by step.
-use Rattle.std.specs.Prelude.{ℕ, ◌+◌, ◌++◌, ◌==◌, ◌||◌, nat_lt, if◌then◌else◌, Bool, false, List, [], ◌∷◌, length, map, filter, flat_map, Option, Some, None, slice_get, option_map}
+use Rattle.std.specs.Prelude.{ℕ, ◌+◌, ◌++◌, ◌==◌, ◌||◌, nat_lt, if◌then◌else◌, Bool, false, List, [], ◌∷◌, length, map, filter, flat_map, Option, Some, slice_get, option_map}
 use Rattle.std.specs.Option.{option_map_or}
 use Rattle.std.specs.List.{list_any}
 use Rattle.wf_model.specs.declared.ids.ActId.{ActId}
 use Rattle.wf_model.specs.declared.ids.EventId.{EventId}
-use Rattle.wf_model.specs.declared.ids.TransId.{TransId}
 use Rattle.wf_model.specs.declared.value.Val.{Val}
 use Rattle.wf_model.specs.declared.chart.Chart.{Chart}
 use Rattle.wf_model.specs.declared.outer.Outer.{Outer}

@@ -1,32 +1,30 @@
 //! Ends that fail, each call of which gives or takes one byte.
+use crate::inputs::{SIDES, SIDES_SCRIPT, SIDES_TEXT, SINGLE, SINGLE_SCRIPT, SINGLE_TEXT};
 use crate::run::{Ends, input_of, run};
 use std::test::Fail;
 use wf_model::Status;
 
-/// An input of 59 bytes.
-const CHART: &str = "chart m; unit a; or R at a { basic S at a; }\n";
-
-const SCRIPT: &str = "---\nstep\nshow\n";
-
-/// What is written for it.
-const TEXT: &str = "1: step 1 fired starts\n2: after 1 in R S vars raised\n";
-
 #[test]
 fn reads(rt: HostRuntime) -> Result<(), Fail> {
-    // The 60th read is the last: it finds the end.
+    // The last read finds the end: the 60th, and the 266th.
+    let refused = "refused read\n";
     let rows = [
-        (1, Status::ReadFault, "refused read\n"),
-        (2, Status::ReadFault, "refused read\n"),
-        (60, Status::ReadFault, "refused read\n"),
-        (61, Status::Ok, TEXT),
+        (SINGLE, SINGLE_SCRIPT, 1, Status::ReadFault, refused),
+        (SINGLE, SINGLE_SCRIPT, 2, Status::ReadFault, refused),
+        (SINGLE, SINGLE_SCRIPT, 60, Status::ReadFault, refused),
+        (SINGLE, SINGLE_SCRIPT, 61, Status::Ok, SINGLE_TEXT),
+        (SIDES, SIDES_SCRIPT, 1, Status::ReadFault, refused),
+        (SIDES, SIDES_SCRIPT, 2, Status::ReadFault, refused),
+        (SIDES, SIDES_SCRIPT, 266, Status::ReadFault, refused),
+        (SIDES, SIDES_SCRIPT, 267, Status::Ok, SIDES_TEXT),
     ];
-    for (call, status, text) in rows {
+    for (chart, script, call, status, text) in rows {
         let ends = Ends {
             piece: 1,
             failing_reads: &[call],
             failing_writes: &[],
         };
-        let input = input_of(rt.alloc(), CHART, SCRIPT)?;
+        let input = input_of(rt.alloc(), chart, script)?;
         let outcome = run(rt.alloc(), "central", input, ends)?;
         assert_eq!(rt; outcome.status, status, "at {call}");
         assert_eq!(rt; outcome.text.as_slice(), text.as_bytes(), "at {call}");
@@ -36,13 +34,25 @@ fn reads(rt: HostRuntime) -> Result<(), Fail> {
 
 #[test]
 fn writes(rt: HostRuntime) -> Result<(), Fail> {
-    for (call, text) in [(1, ""), (2, "1"), (24, "1: step 1 fired starts\n")] {
+    // The last write is the 53rd, and the 104th.
+    let single = "1: step 1 fired starts\n2: after 1 in R S vars raised";
+    let sides =
+        "1: ok\n2: step 1 fired t0 starts\n3: ok\n4: step 2 fired t1 starts\n5: after 2 in R A B B1 C C2 vars raised";
+    let rows = [
+        (SINGLE, SINGLE_SCRIPT, 1, ""),
+        (SINGLE, SINGLE_SCRIPT, 2, "1"),
+        (SINGLE, SINGLE_SCRIPT, 53, single),
+        (SIDES, SIDES_SCRIPT, 1, ""),
+        (SIDES, SIDES_SCRIPT, 2, "1"),
+        (SIDES, SIDES_SCRIPT, 104, sides),
+    ];
+    for (chart, script, call, text) in rows {
         let ends = Ends {
             piece: 1,
             failing_reads: &[],
             failing_writes: &[call],
         };
-        let input = input_of(rt.alloc(), CHART, SCRIPT)?;
+        let input = input_of(rt.alloc(), chart, script)?;
         let outcome = run(rt.alloc(), "central", input, ends)?;
         assert_eq!(rt; outcome.status, Status::WriteFault, "at {call}");
         assert_eq!(rt; outcome.text.as_slice(), text.as_bytes(), "at {call}");

@@ -1,11 +1,9 @@
 //! Inputs over ends that never fail.
+use crate::inputs::{SIDES, SIDES_SCRIPT, SIDES_TEXT, SINGLE, SINGLE_SCRIPT, SINGLE_TEXT};
 use crate::run::{Ends, input_of, run};
 use std::test::Fail;
 use wf_model::limits::MAX_INPUT;
 use wf_model::{List, Status};
-
-/// One state.
-const SINGLE: &str = "chart m; unit a; or R at a { basic S at a; }\n";
 
 /// Transitions of which an outer one wins, then the lower number of one scope.
 const PRIORITIES: &str = "# PRI
@@ -18,25 +16,11 @@ from X1 to X2 on g;
 from X to X on f;
 ";
 
-/// Two sides, and a transition from one into the other.
-const SIDES: &str = "# REG
-chart reg; unit a; event e at a; event f at a;
-or R at a { and A at a {
-  or B at a { basic B1 at a; basic B2 at a; }
-  or C at a { basic C1 at a; basic C2 at a; } } }
-from B1 to B2 on e;
-from B2 to C2 on f;
-";
-
 #[test]
 fn central(rt: HostRuntime) -> Result<(), Fail> {
     let rows = [
         (SINGLE, "", ""),
-        (
-            SINGLE,
-            "---\nstep\nshow\n",
-            "1: step 1 fired starts\n2: after 1 in R S vars raised\n",
-        ),
+        (SINGLE, SINGLE_SCRIPT, SINGLE_TEXT),
         (
             PRIORITIES,
             "---\nouter a event e\nstep\nshow\n",
@@ -47,11 +31,7 @@ fn central(rt: HostRuntime) -> Result<(), Fail> {
             "---\nouter a event g\nstep\nouter a event f\nstep\nshow\n",
             "1: ok\n2: step 1 fired t3 starts\n3: ok\n4: step 2 fired t4 starts\n5: after 2 in R X X1 vars raised\n",
         ),
-        (
-            SIDES,
-            "---\nouter a event e\nstep\nouter a event f\nstep\nshow\n",
-            "1: ok\n2: step 1 fired t0 starts\n3: ok\n4: step 2 fired t1 starts\n5: after 2 in R A B B1 C C2 vars raised\n",
-        ),
+        (SIDES, SIDES_SCRIPT, SIDES_TEXT),
     ];
     for (chart, script, text) in rows {
         for piece in [1, 4096] {

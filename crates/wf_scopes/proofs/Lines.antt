@@ -1,5 +1,5 @@
 -- The lines of ancestors, table by table.
-use Rattle.std.proofs.Common.{◌≡◌, ℕ, zero, suc, ◌+◌, ◌<◌, ◌≤◌, ◌==◌, Bool, List, [], ◌∷◌, length, map, filter, get_or, cond, true, false, find, unwrap_or, Option, Some, None, ◌&&◌, ◌++◌, refl, sym, ◌∙◌, ap, arith}
+use Rattle.std.proofs.Common.{◌≡◌, ℕ, zero, suc, ◌+◌, ◌<◌, ◌==◌, Bool, List, [], ◌∷◌, length, map, filter, get_or, cond, true, false, find, unwrap_or, Option, Some, None, ◌&&◌, ◌++◌, refl, sym, ◌∙◌, ap, arith}
 use Rattle.std.specs.List.{range_with_len, slice_get, list_any}
 use Rattle.std.specs.Option.{option_map}
 use Rattle.std.proofs.lemmas.Option.{slice_get-get_or}
@@ -8,7 +8,7 @@ use Rattle.wf_model.specs.declared.chart.State.{State}
 use Rattle.wf_model.specs.declared.chart.Transition.{Transition}
 use Rattle.wf_model.specs.declared.chart.Chart.{Chart}
 use Rattle.wf_model.specs.Accepted.{IsAccepted}
-use Rattle.wf_model.specs.Tree.{parent, parent_of, ancestors, ancestors_by, list_from, is_above, is_among, all_states, kind, is_or, scope_between, scope, source, target}
+use Rattle.wf_model.specs.Tree.{parent, parent_of, ancestors, ancestors_by, list_from, is_above, kind, is_or, scope_between, source, target}
 use Rattle.wf_semantics.proofs.Ancestors.{by_up, enough}
 use Rattle.wf_semantics.proofs.Bools.{any_map}
 use Rattle.wf_semantics.proofs.Facts.{IsChart, chart_of}

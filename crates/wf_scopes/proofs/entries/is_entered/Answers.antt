@@ -1,7 +1,7 @@
-use Rattle.std.proofs.Common.{◌≡◌, ◌<◌, ◌&&◌, ap, sym, ◌∙◌, arith, Some, None, length, true, false, Option, refl}
+use Rattle.std.proofs.Common.{◌≡◌, ap, sym, ◌∙◌, arith, Some, true, false, refl}
 use Rattle.std.specs.Option.{option_map}
 use Rattle.wf_model.specs.declared.ids.StateId.{StateId}
-use Rattle.wf_model.specs.Tree.{parent, target}
+use Rattle.wf_model.specs.Tree.{parent}
 use Rattle.wf_semantics.specs.Configuration.{is_in}
 use Rattle.wf_semantics.specs.Entry.{entry_tree}
 use Rattle.wf_semantics.proofs.Facts.{chart_of}

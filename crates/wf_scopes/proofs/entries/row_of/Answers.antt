@@ -1,5 +1,4 @@
-use Rattle.std.proofs.Common.{◌≡◌, ◌<◌, arith, length, ◌∙◌, rules}
-use Rattle.wf_model.specs.declared.limits.TheConstants.{MAX_STATES}
+use Rattle.std.proofs.Common.{arith, ◌∙◌}
 use Rattle.wf_semantics.specs.Configuration.{is_in}
 use Rattle.wf_semantics.specs.Entry.{entry_tree}
 use Rattle.wf_semantics.proofs.Facts.{chart_of}

@@ -1,4 +1,4 @@
-use Rattle.std.proofs.Common.{◌<◌, ◌==◌, length, arith, ◌∙◌, ap}
+use Rattle.std.proofs.Common.{◌==◌, arith, ◌∙◌, ap}
 use Rattle.wf_scopes.proofs.Lines.{lineages_len, above_read}
 use Rattle.std.specs.List.{list_any}
 use Rattle.wf_scopes.proofs.lineages.is_above.Goals as goal

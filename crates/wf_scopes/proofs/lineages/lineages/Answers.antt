@@ -1,4 +1,4 @@
-use Rattle.std.proofs.Common.{◌≡◌, ◌<◌, get_or, length, map, rules, sym, ◌∙◌, ap}
+use Rattle.std.proofs.Common.{◌≡◌, ◌<◌, get_or, length, map, rules, ◌∙◌}
 use Rattle.std.specs.List.{range_with_len}
 use Rattle.wf_scopes.specs.Tables.{ancestor_ids}
 use Rattle.wf_scopes.proofs.Rows.{row_more}

@@ -1,5 +1,4 @@
-use Rattle.std.proofs.Common.{◌≡◌, ◌∙◌, ap, sym, rules, true, false, cond, List, [], ◌∷◌, ◌++◌, map, filter, append-nil}
-use Rattle.std.specs.List.{range_with_len}
+use Rattle.std.proofs.Common.{◌∙◌, ap, sym, [], ◌∷◌, ◌++◌, append-nil}
 use Rattle.wf_model.specs.Tree.{is_above}
 use Rattle.wf_scopes.specs.Tables.{state_id}
 use Rattle.wf_scopes.proofs.Lines.{filter_more}

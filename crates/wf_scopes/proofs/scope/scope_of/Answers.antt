@@ -1,7 +1,7 @@
-use Rattle.std.proofs.Common.{◌≡◌, ◌<◌, ◌&&◌, length, get_or, find, arith, ◌∙◌, ap, sym, unwrap_or, Option}
+use Rattle.std.proofs.Common.{◌&&◌, find, arith, ◌∙◌, ap, sym, unwrap_or, Option}
 use Rattle.std.specs.Option.{option_map}
 use Rattle.wf_model.specs.declared.ids.StateId.{StateId}
-use Rattle.wf_model.specs.Tree.{kind, is_or, is_above, scope_between}
+use Rattle.wf_model.specs.Tree.{kind, is_or, is_above}
 use Rattle.wf_scopes.proofs.Lines.{lineages_len, scope_read}
 use Rattle.wf_scopes.proofs.scope.scope_of.Goals as goal
 

@@ -1,6 +1,5 @@
-use Rattle.std.proofs.Common.{◌≡◌, ◌<◌, get_or, length, map, rules, ◌∙◌, ap, refl}
-use Rattle.std.specs.List.{range_with_len}
-use Rattle.wf_model.specs.Tree.{scope, scope_between}
+use Rattle.std.proofs.Common.{◌≡◌, ◌<◌, get_or, length, rules, ◌∙◌, ap, refl}
+use Rattle.wf_model.specs.Tree.{scope}
 use Rattle.wf_scopes.specs.Tables.{state_id, scopes_of}
 use Rattle.wf_scopes.proofs.Rows.{row_more}
 use Rattle.wf_scopes.proofs.Lines.{source_in, target_in, source_read, target_read}

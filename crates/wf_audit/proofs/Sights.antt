@@ -13,7 +13,6 @@ use Rattle.wf_scopes.proofs.Rows.{range_more}
 use Rattle.wf_central.specs.declared.notes.StepNotes.{StepNotes}
 use Rattle.wf_central.specs.Kept.{Kept, central_of, notes_of}
 use Rattle.wf_audit.specs.declared.script.CentralLine.{CentralLine}
-use Rattle.wf_audit.specs.declared.reply.Reply.{Reply}
 use Rattle.wf_audit.specs.declared.reply.Reply.TheVariants as reply
 use Rattle.wf_audit.specs.CentralText.{Standing, states_in, sight_of, stepped, in_unit_order, line_text, after_said, replies_from}
 

@@ -2,7 +2,7 @@
 use Rattle.std.proofs.Common.{◌≡◌, ℕ, ◌<◌, ◌≤◌, ◌==◌, ◌||◌, ◌&&◌, not, cond, Bool, true, false, List, [], ◌∷◌, length, Option, Some, None, is_some, filter, inl, inr, refl, sym, ◌∙◌, ap, ap₂, subst, arith, eqb-true, eq-eqb, true≢false}
 use Rattle.std.specs.List.{list_any}
 use Rattle.wf_model.specs.declared.chart.Chart.{Chart}
-use Rattle.wf_model.specs.Tree.{scope, source, target, is_above, ancestors, all_transitions}
+use Rattle.wf_model.specs.Tree.{scope, is_above, ancestors, all_transitions}
 use Rattle.wf_semantics.specs.Configuration.{Tree, is_in, IsConfiguration}
 use Rattle.wf_semantics.specs.Entry.{entry_tree}
 use Rattle.wf_semantics.specs.Walk.{new_tree, fired_of, first_of_scope}

@@ -2,7 +2,6 @@
 use Rattle.std.proofs.Common.{◌≡◌, ℕ, ◌<◌, ◌≤◌, ◌==◌, ◌||◌, ◌&&◌, cond, Bool, true, false, List, [], ◌∷◌, length, map, filter, find, get_or, Option, Some, None, is_some, unwrap_or, inl, inr, refl, sym, ◌∙◌, ap, ap₂, arith, IfSome}
 use Rattle.std.specs.List.{list_any, range_with_len, slice_get}
 use Rattle.std.specs.Option.{option_map}
-use Rattle.wf_model.specs.declared.ids.StateId.{StateId}
 use Rattle.wf_model.specs.declared.ids.TransId.{TransId}
 use Rattle.wf_model.specs.declared.ids.EventId.{EventId}
 use Rattle.wf_model.specs.declared.expr.Expr.{Expr}
@@ -11,14 +10,13 @@ use Rattle.wf_model.specs.declared.chart.Chart.{Chart}
 use Rattle.wf_model.specs.declared.outer.Entry.{Entry}
 use Rattle.wf_model.specs.Accepted.{IsAccepted}
 use Rattle.wf_model.specs.Plain.{is_plain}
-use Rattle.wf_model.specs.Tree.{scope, source, ancestors, is_above, all_states, all_transitions}
-use Rattle.wf_semantics.specs.Configuration.{Tree, is_in, IsConfiguration}
-use Rattle.wf_semantics.specs.Entry.{entry_tree}
+use Rattle.wf_model.specs.Tree.{scope, source, ancestors, all_states, all_transitions}
+use Rattle.wf_semantics.specs.Configuration.{is_in, IsConfiguration}
 use Rattle.wf_semantics.specs.Walk.{new_tree, fired_of, first_of_scope}
 use Rattle.wf_semantics.specs.Flat.{HaveActiveSources}
 use Rattle.wf_semantics.specs.Snapshot.{is_active, has_event, has_guard, is_ready, is_enabled}
 use Rattle.wf_semantics.specs.Run.{CentralState, snapshot_of, is_happening}
-use Rattle.wf_semantics.proofs.Bools.{Mem, any_agree, any_map}
+use Rattle.wf_semantics.proofs.Bools.{Mem, any_agree}
 use Rattle.wf_semantics.proofs.Lists.{mem_among, filter_agree, find_some}
 use Rattle.wf_semantics.proofs.Children.{item_at, lt_or_ge}
 use Rattle.wf_semantics.proofs.Facts.{IsChart, chart_of}
@@ -26,8 +24,8 @@ use Rattle.wf_semantics.proofs.Places.{above_low}
 use Rattle.wf_semantics.proofs.Scopes.{scope_facts}
 use Rattle.wf_semantics.proofs.Steps.{transition_mem}
 use Rattle.wf_semantics.proofs.Runs.{enabled_sources, snapshot_shows}
-use Rattle.wf_scopes.specs.Tables.{state_id, ancestor_ids}
-use Rattle.wf_scopes.proofs.Rows.{row_get, row_agree, row_len}
+use Rattle.wf_scopes.specs.Tables.{state_id}
+use Rattle.wf_scopes.proofs.Rows.{row_get, row_len}
 use Rattle.wf_central.specs.Kept.{bit}
 use Rattle.wf_central.specs.Passes.{trans_id, comes, is_ready_by, ready_by, at, chosen_by, firing_by, is_number, fired_by, or_else, first_ids, bit_by, moved_by}
 use Rattle.wf_central.proofs.Quiet.{no_guard}

@@ -1,25 +1,18 @@
 -- A plain chart has no variables, no items, and raises nothing.
-use Rattle.std.proofs.Common.{◌≡◌, ℕ, suc, ◌+◌, ◌==◌, ◌&&◌, ◌||◌, cond, Bool, true, false, List, [], ◌∷◌, ◌++◌, length, map, filter, Option, Some, None, is_none, unwrap_or, refl, sym, ◌∙◌, ap, subst, arith, IsTrue, eqb-true, true≢false}
-use Rattle.std.specs.List.{list_all, list_any, range_with_len, slice_get, flat_map}
+use Rattle.std.proofs.Common.{◌≡◌, ℕ, ◌==◌, ◌&&◌, ◌||◌, cond, Bool, true, false, List, [], ◌∷◌, ◌++◌, length, map, filter, Option, Some, None, is_none, unwrap_or, refl, sym, ◌∙◌, ap, arith, eqb-true, true≢false}
+use Rattle.std.specs.List.{list_all, list_any, range_with_len, slice_get}
 use Rattle.std.specs.Option.{option_map}
-use Rattle.wf_model.specs.declared.ids.ActId.{ActId}
-use Rattle.wf_model.specs.declared.ids.EventId.{EventId}
-use Rattle.wf_model.specs.declared.value.Val.{Val}
-use Rattle.wf_model.specs.declared.expr.Expr.{Expr}
 use Rattle.wf_model.specs.declared.chart.Action.{Action}
 use Rattle.wf_model.specs.declared.chart.Transition.{Transition}
-use Rattle.wf_model.specs.declared.chart.Activity.{Activity}
-use Rattle.wf_model.specs.declared.chart.Variable.{Variable}
 use Rattle.wf_model.specs.declared.chart.Chart.{Chart}
 use Rattle.wf_model.specs.declared.outer.Output.{Output}
 use Rattle.wf_model.specs.declared.outer.Outer.{Outer}
 use Rattle.wf_model.specs.declared.outer.Outer.TheVariants.{Happen, Complete}
 use Rattle.wf_model.specs.declared.outer.Entry.{Entry}
-use Rattle.wf_model.specs.declared.update.StartAt.{StartAt}
 use Rattle.wf_model.specs.Plain.{is_plain, is_plain_transition}
 use Rattle.wf_semantics.specs.Snapshot.{Snapshot}
 use Rattle.wf_semantics.specs.Effects.{actions_of, after_outputs, after_outer, after_entries, after_actions, after_fired, action_raises, raises, raised_by, starts_from, starts_of}
-use Rattle.wf_semantics.specs.Items.{Item, Completion, close_all}
+use Rattle.wf_semantics.specs.Items.{Completion, close_all}
 use Rattle.wf_semantics.specs.Run.{new_items, numbered}
 use Rattle.wf_semantics.proofs.Bools.{and_both}
 use Rattle.wf_semantics.proofs.Facts.{all_at}

@@ -1,7 +1,6 @@
 -- A kept state of a plain chart, field by field.
-use Rattle.std.proofs.Common.{◌≡◌, ℕ, ◌+◌, ◌++◌, ◌<◌, Bool, true, List, [], length, map, refl, sym, ◌∙◌, ap, ap₂, subst}
+use Rattle.std.proofs.Common.{◌≡◌, ℕ, ◌+◌, ◌++◌, Bool, true, List, [], length, map, sym, ◌∙◌, ap, ap₂, subst}
 use Rattle.wf_model.specs.declared.ids.EventId.{EventId}
-use Rattle.wf_model.specs.declared.value.Val.{Val}
 use Rattle.wf_model.specs.declared.chart.Chart.{Chart}
 use Rattle.wf_model.specs.declared.chart.Variable.{Variable}
 use Rattle.wf_model.specs.declared.outer.Entry.{Entry}
@@ -13,7 +12,7 @@ use Rattle.wf_semantics.specs.Bits.{tree_of_bits}
 use Rattle.wf_semantics.specs.Entry.{default_tree}
 use Rattle.wf_semantics.specs.Effects.{after_entries, after_fired, starts_of}
 use Rattle.wf_semantics.specs.Items.{Item, close_all}
-use Rattle.wf_semantics.specs.Run.{CentralState, first_state, next_state, snapshot_of, fired_in, started_in, items_closed, completions_at, new_items}
+use Rattle.wf_semantics.specs.Run.{CentralState, first_state, next_state, snapshot_of, fired_in, started_in, completions_at, new_items}
 use Rattle.wf_semantics.proofs.Facts.{chart_of}
 use Rattle.wf_semantics.proofs.Configured.{tree_of_same_bits, bits_configuration}
 use Rattle.wf_semantics.proofs.Runs.{first_configuration, next_configuration}
@@ -21,7 +20,7 @@ use Rattle.wf_scopes.specs.Tables.{Tables, tables_of}
 use Rattle.wf_central.specs.Kept.{Kept, bit, central_of, IsOf}
 use Rattle.wf_central.specs.declared.passes.AfterStep.{AfterStep}
 use Rattle.wf_central.specs.Made.{IsShown, MakesStep}
-use Rattle.wf_central.proofs.Quiet.{no_vars, entries_none, fired_none, raised_none, starts_none, close_none, new_none, numbered_none}
+use Rattle.wf_central.proofs.Quiet.{no_vars, entries_none, fired_none, raised_none, close_none, new_none, numbered_none}
 use Rattle.wf_central.proofs.Passing.{row_bit}
 
 module _ (chart : Chart) (accepted : IsAccepted chart) (plain : is_plain chart ≡ true) where

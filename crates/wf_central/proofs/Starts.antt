@@ -1,5 +1,5 @@
 -- The states that are in by default, one after another.
-use Rattle.std.proofs.Common.{◌≡◌, ℕ, ◌+◌, ◌<◌, ◌==◌, ◌||◌, ◌&&◌, Bool, true, false, List, length, map, get_or, Option, Some, None, refl, sym, ◌∙◌, ap, ap₂, arith, eqb-true, eq-eqb, true≢false}
+use Rattle.std.proofs.Common.{◌≡◌, ℕ, ◌+◌, ◌<◌, ◌==◌, ◌||◌, ◌&&◌, Bool, true, false, List, map, get_or, Option, Some, None, refl, sym, ◌∙◌, ap, ap₂, arith, eqb-true, eq-eqb}
 use Rattle.std.specs.List.{range_with_len}
 use Rattle.std.specs.Option.{option_map_or}
 use Rattle.wf_model.specs.declared.chart.Kind.{Kind}

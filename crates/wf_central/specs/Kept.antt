@@ -1,7 +1,6 @@
 -- What a central state keeps, and which state of a chart it is.
 use Rattle.std.specs.Prelude.{◌≡◌, ℕ, Bool, false, List, [], map, unwrap_or, slice_get}
 use Rattle.wf_model.specs.declared.ids.EventId.{EventId}
-use Rattle.wf_model.specs.declared.ids.TransId.{TransId}
 use Rattle.wf_model.specs.declared.chart.Chart.{Chart}
 use Rattle.wf_model.specs.declared.outer.Entry.{Entry}
 use Rattle.wf_model.specs.Tree.{all_states}

@@ -1,4 +1,4 @@
-use Rattle.std.proofs.Common.{◌≡◌, ◌≤◌, ◌+◌, arith, ap}
+use Rattle.std.proofs.Common.{◌+◌, arith, ap}
 use Rattle.wf_audit.specs.CentralText.{first_standing, replies_from}
 use Rattle.wf_audit.specs.Standings.{standing_of}
 use Rattle.wf_audit.proofs.Sights.{replies_on}

@@ -1,4 +1,4 @@
-use Rattle.std.proofs.Common.{◌≡◌, ◌∙◌}
+use Rattle.std.proofs.Common.{◌∙◌}
 use Rattle.wf_audit.proofs.Sights.{sight_is}
 use Rattle.wf_audit.proofs.central.sight.Goals as goal
 

@@ -1,4 +1,4 @@
-use Rattle.std.proofs.Common.{◌≡◌, ◌<◌, ◌∙◌, ap, sym, arith, rules, length, true, false, cond, List, [], ◌∷◌, ◌++◌, append-nil}
+use Rattle.std.proofs.Common.{◌<◌, ◌∙◌, ap, sym, arith, length, [], ◌∷◌, ◌++◌, append-nil}
 use Rattle.wf_semantics.specs.Configuration.{is_in}
 use Rattle.wf_semantics.proofs.Facts.{chart_of}
 use Rattle.wf_scopes.proofs.Lines.{filter_more_by}

@@ -1,6 +1,5 @@
 use Rattle.std.proofs.Common.{◌≡◌, map, filter}
 use Rattle.std.specs.List.{range_with_len}
-use Rattle.wf_model.specs.declared.ids.StateId.{StateId}
 use Rattle.wf_semantics.specs.Configuration.{is_in}
 use Rattle.wf_central.specs.Kept.{central_of}
 use Rattle.wf_audit.specs.CentralText.{state_id}

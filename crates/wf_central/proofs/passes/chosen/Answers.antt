@@ -1,8 +1,7 @@
-use Rattle.std.proofs.Common.{◌≡◌, ◌<◌, ◌≤◌, ◌-◌, arith, rules, length, map, ap, sym, ◌∙◌}
+use Rattle.std.proofs.Common.{◌<◌, ◌-◌, arith, rules, length, map, ap, sym, ◌∙◌}
 use Rattle.wf_model.specs.Tree.{scope, all_states}
 use Rattle.wf_semantics.proofs.Facts.{chart_of}
 use Rattle.wf_semantics.proofs.Scopes.{scope_facts}
-use Rattle.wf_semantics.proofs.Configured.{above_inside}
 use Rattle.wf_semantics.proofs.Places.{above_low}
 use Rattle.wf_scopes.proofs.Rows.{row_len}
 use Rattle.wf_central.specs.Passes.{chosen_from}

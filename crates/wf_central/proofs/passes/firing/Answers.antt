@@ -1,5 +1,4 @@
-use Rattle.std.proofs.Common.{◌≡◌, ◌<◌, arith, rules, length, map, ap, ◌∙◌}
-use Rattle.std.specs.List.{range_with_len}
+use Rattle.std.proofs.Common.{arith, ◌∙◌}
 use Rattle.wf_semantics.proofs.Facts.{chart_of}
 use Rattle.wf_scopes.proofs.Rows.{row_more}
 use Rattle.wf_central.specs.Passes.{firing_by}

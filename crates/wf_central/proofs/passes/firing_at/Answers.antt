@@ -1,7 +1,6 @@
-use Rattle.std.proofs.Common.{◌≡◌, List, None, Option, is_some, cond, Bool, sym, ap, ◌∙◌, true, false}
+use Rattle.std.proofs.Common.{None, is_some, cond, Bool, sym, ap, ◌∙◌}
 use Rattle.std.specs.List.{list_any}
 use Rattle.wf_model.specs.declared.ids.StateId.{StateId}
-use Rattle.wf_model.specs.declared.ids.TransId.{TransId}
 use Rattle.wf_model.specs.Tree.{ancestors}
 use Rattle.wf_semantics.proofs.Bools.{any_map}
 use Rattle.wf_scopes.specs.Tables.{state_id}

@@ -1,4 +1,4 @@
-use Rattle.std.proofs.Common.{◌≡◌, arith, rules, length, map, None, ap, refl, ◌∙◌}
+use Rattle.std.proofs.Common.{◌≡◌, rules, length, map, None, ap, refl, ◌∙◌}
 use Rattle.std.specs.List.{range_with_len}
 use Rattle.wf_scopes.proofs.Rows.{row_more}
 use Rattle.wf_central.proofs.passes.none_chosen.Goals as goal

@@ -1,5 +1,4 @@
-use Rattle.std.proofs.Common.{◌≡◌, List, length, map, ap, sym, ◌∙◌}
-use Rattle.wf_model.specs.declared.ids.TransId.{TransId}
+use Rattle.std.proofs.Common.{length, map, ap, ◌∙◌}
 use Rattle.wf_semantics.specs.Configuration.{is_in}
 use Rattle.wf_semantics.specs.Run.{fired_in, next_state}
 use Rattle.wf_scopes.proofs.Rows.{row_agree}

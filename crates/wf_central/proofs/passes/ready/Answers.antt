@@ -1,5 +1,5 @@
-use Rattle.std.proofs.Common.{◌≡◌, ◌<◌, get_or, Some, rules, length, map, ap, sym, ◌∙◌, unwrap_or, false}
-use Rattle.std.specs.List.{range_with_len, slice_get}
+use Rattle.std.proofs.Common.{◌≡◌, ◌<◌, get_or, rules, length, map, ap, sym, ◌∙◌, unwrap_or, false}
+use Rattle.std.specs.List.{range_with_len}
 use Rattle.std.specs.Option.{option_map}
 use Rattle.wf_scopes.proofs.Rows.{row_more}
 use Rattle.wf_scopes.proofs.Lines.{trans_get}

@@ -1,4 +1,4 @@
-use Rattle.std.proofs.Common.{◌≡◌, ◌∙◌, ap, ap₂}
+use Rattle.std.proofs.Common.{◌∙◌, ap, ap₂}
 use Rattle.wf_central.specs.Kept.{central_of, notes_of}
 use Rattle.wf_audit.specs.CentralText.{in_unit_order}
 use Rattle.wf_audit.proofs.Sights.{step_is}

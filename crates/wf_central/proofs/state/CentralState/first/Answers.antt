@@ -1,6 +1,5 @@
-use Rattle.std.proofs.Common.{◌≡◌, map, ap, ◌∙◌, Bool, List}
+use Rattle.std.proofs.Common.{map, ap, ◌∙◌}
 use Rattle.wf_model.specs.declared.chart.Chart.{Chart}
-use Rattle.wf_model.specs.Accepted.{IsAccepted}
 use Rattle.wf_model.specs.Tree.{all_states}
 use Rattle.wf_semantics.specs.Configuration.{is_in}
 use Rattle.wf_semantics.specs.Entry.{default_tree}

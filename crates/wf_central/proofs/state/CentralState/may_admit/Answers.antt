@@ -1,11 +1,5 @@
-use Rattle.std.proofs.Common.{◌≡◌, Bool, true, false, not, cond, Result, Ok, Err, sym, ◌∙◌, ap}
-use Rattle.std.specs.List.{slice_get}
-use Rattle.std.specs.Option.{option_map_or, option_map}
-use Rattle.wf_model.specs.declared.outer.Outer.{Outer}
-use Rattle.wf_model.specs.declared.outer.OuterFault.{OuterFault}
-use Rattle.wf_model.specs.declared.outer.OuterFault.TheVariants.{WrongUnit}
-use Rattle.wf_model.specs.declared.chart.Activity.{Activity}
-use Rattle.wf_semantics.specs.Admission.{may_be_admitted, is_event_at}
+use Rattle.std.proofs.Common.{sym, ◌∙◌, ap}
+use Rattle.wf_semantics.specs.Admission.{is_event_at}
 use Rattle.wf_central.specs.Kept.{central_of}
 use Rattle.wf_central.proofs.Admits.{admits_event, refuses_event, refuses_completion}
 use Rattle.wf_central.proofs.state.CentralState.may_admit.Goals as goal

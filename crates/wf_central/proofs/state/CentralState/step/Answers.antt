@@ -1,9 +1,8 @@
-use Rattle.std.proofs.Common.{◌≡◌, ◌+◌, [], ap, sym, ◌∙◌, ap₂, ℕ}
+use Rattle.std.proofs.Common.{◌+◌, ap, ◌∙◌, ℕ}
 use Rattle.wf_semantics.specs.Run.{next_state}
 use Rattle.wf_semantics.proofs.Facts.{chart_of}
 use Rattle.wf_semantics.proofs.Runs.{next_configuration}
 use Rattle.wf_central.specs.Kept.{Kept, central_of}
-use Rattle.wf_central.specs.declared.notes.StepNotes.{StepNotes}
 use Rattle.wf_central.proofs.Same.{kept_configuration, next_is, keeps, stepped, starts_are_none}
 use Rattle.wf_central.proofs.state.CentralState.step.Goals as goal
 

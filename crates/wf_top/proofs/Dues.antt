@@ -1,5 +1,5 @@
 -- What is due, and that a run which writes it may end so.
-use Rattle.std.proofs.Common.{◌≡◌, ◌⊎◌, ◌≤◌, ◌<◌, ◌∙◌, ℕ, ◌++◌, List, [], ◌∷◌, Bool, true, false, nat_le, length, take, Option, Some, None, IfSome, refl, sym, ap, subst, inl, inr, arith, append-nil}
+use Rattle.std.proofs.Common.{◌≡◌, ◌⊎◌, ◌≤◌, ◌<◌, ◌∙◌, ℕ, ◌++◌, List, true, false, nat_le, length, take, Option, Some, None, IfSome, refl, sym, ap, subst, inl, inr, arith, append-nil}
 use Rattle.std.proofs.lemmas.Bool.Decides.{nat_tests}
 use Rattle.std.specs.Io.KnownBytes.{Appends, Consumes, IsAtEnd}
 use lib.Chars.{codes}
@@ -8,7 +8,7 @@ use Rattle.wf_model.specs.declared.status.Status.{Status}
 use Rattle.wf_model.specs.declared.status.Status.TheVariants as status
 use Rattle.wf_io.specs.Causes.{Rose}
 use Rattle.wf_top.specs.Answers.{Answer, answer_of, answer_to, run_in, refused}
-use Rattle.wf_top.specs.Top.{Ends, IsDue, IsWritten, MayAnswer}
+use Rattle.wf_top.specs.Top.{Ends, IsDue, MayAnswer}
 
 -- the text was written whole, or a write failed behind a front part
 abbrev pub IsFinished : Ends → Ends → Status → List ℕ → Status → Type 0

@@ -1,5 +1,4 @@
-use Rattle.std.proofs.Common.{◌≤◌, length, arith, ap, sym, ◌∙◌}
-use Rattle.wf_model.specs.declared.limits.TheConstants.{MAX_INPUT}
+use Rattle.std.proofs.Common.{length, arith, ap, sym, ◌∙◌}
 use Rattle.wf_top.proofs.Parts.{chart_short, script_short}
 use Rattle.wf_top.proofs.Plainly.{plain_in}
 use Rattle.wf_top.proofs.central.run_in.Goals as goal

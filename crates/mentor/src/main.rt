@@ -2,9 +2,9 @@
 //! top call, and ends with the number of its status.
 #![tactic(auto)]
 
+use std::env;
 use std::io::ErrorKind;
 use std::process::ExitCode;
-use std::env;
 use wf_io::{StdClock, StdSink, StdSource};
 use wf_model::{Bytes, List, NoMemory, Status};
 use wf_top::mentor;

@@ -1,9 +1,8 @@
 //! A script with each kind of line, and a text with each reply.
-use crate::{CentralLine, Reply, ScriptFault, append_reply, divide, read_central};
+use crate::{Reply, append_reply, divide};
 use std::alloc::Global;
 use std::test::Fail;
 use wf_central::StepNotes;
-use wf_check::check_plain;
 use wf_model::{
     ActId, Activity, Bytes, Chart, Event, EventId, Kind, List, Name, NoMemory, Outer, OuterFault,
     Output, Sort, State, StateId, TransId, Txt, UnitId, Val, VarId, Variable,
@@ -60,39 +59,6 @@ fn divides_an_input(rt: HostRuntime) -> Result<(), Fail> {
     let whole = divide(b" ---\na");
     assert_eq!(rt; whole.chart, b" ---\na".as_slice());
     assert_eq!(rt; whole.script.len(), 0);
-    Ok(())
-}
-
-#[test]
-fn reads_each_line(rt: HostRuntime) -> Result<(), Fail> {
-    let alloc = rt.alloc();
-    let checked = check_plain(alloc, chart(alloc)?)?.ok_or("refused")?;
-    let script = b"outer there event go\r\n# nothing\n\n step\nshow # now";
-    let lines = read_central(alloc, checked.chart(), script)?;
-    assert_eq!(rt; lines.len(), 5);
-    let lines = lines.as_slice();
-    assert!(rt;
-        matches!(
-            &lines[0],
-            Some(CentralLine::Outer {
-                unit: UnitId(1),
-                outer: Outer::Happen(EventId(1)),
-            })
-        )
-    );
-    assert!(rt; lines[1].is_none());
-    assert!(rt; lines[2].is_none());
-    assert!(rt; matches!(&lines[3], Some(CentralLine::Step)));
-    assert!(rt; matches!(&lines[4], Some(CentralLine::Show)));
-    Ok(())
-}
-
-#[test]
-fn refuses_a_line(rt: HostRuntime) -> Result<(), Fail> {
-    let alloc = rt.alloc();
-    let checked = check_plain(alloc, chart(alloc)?)?.ok_or("refused")?;
-    let fault = read_central(alloc, checked.chart(), b"step\n\nouter go event here\n").err();
-    assert_eq!(rt; fault, Some(ScriptFault::Refused { line: 3 }));
     Ok(())
 }
 

@@ -1,8 +1,8 @@
 -- What is worked out once for a chart.
-use Rattle.std.specs.Prelude.{ℕ, Bool, List, map, filter}
+use Rattle.std.specs.Prelude.{ℕ, Bool, List, map}
 use Rattle.wf_model.specs.declared.ids.StateId.{StateId}
 use Rattle.wf_model.specs.declared.chart.Chart.{Chart}
-use Rattle.wf_model.specs.Tree.{all_states, all_transitions, ancestors, is_above, scope}
+use Rattle.wf_model.specs.Tree.{all_states, all_transitions, ancestors, scope}
 use Rattle.wf_semantics.specs.Configuration.{is_in}
 use Rattle.wf_semantics.specs.Entry.{entry_tree}
 
@@ -13,10 +13,6 @@ state_id s = record { 0 = s }
 abbrev pub ancestor_ids : Chart → ℕ → List StateId
 ancestor_ids chart s = map state_id (ancestors chart s)
 
--- the states that a state is a proper ancestor of, ascending
-abbrev pub below_ids : Chart → ℕ → List StateId
-below_ids chart s = map state_id (filter (is_above chart s) (all_states chart))
-
 -- for each state, whether it is in the entry tree of transition t
 abbrev pub entry_row : Chart → ℕ → List Bool
 entry_row chart t = map (λ z. is_in z (entry_tree chart t)) (all_states chart)
@@ -24,10 +20,6 @@ entry_row chart t = map (λ z. is_in z (entry_tree chart t)) (all_states chart)
 -- by state: its ancestors
 unfoldable pub lineages_of : Chart → List (List StateId)
 lineages_of chart = map (ancestor_ids chart) (all_states chart)
-
--- by state: the states below it
-unfoldable pub below_of : Chart → List (List StateId)
-below_of chart = map (below_ids chart) (all_states chart)
 
 -- by transition: its scope
 unfoldable pub scopes_of : Chart → List StateId
@@ -39,10 +31,9 @@ entries_of chart = map (entry_row chart) (all_transitions chart)
 
 pub record Tables : Type 0 where
   pub lineages : List (List StateId)
-  pub below : List (List StateId)
   pub scopes : List StateId
   pub entries : List (List Bool)
 
 abbrev pub tables_of : Chart → Tables
 tables_of chart =
-    record { lineages = lineages_of chart; below = below_of chart; scopes = scopes_of chart; entries = entries_of chart }
+    record { lineages = lineages_of chart; scopes = scopes_of chart; entries = entries_of chart }

@@ -5,8 +5,6 @@ mod entries;
 mod lineages;
 mod scope;
 mod scopes;
-#[cfg(test)]
-mod tests;
 
 pub use entries::parent_at;
 pub use lineages::kind_of;

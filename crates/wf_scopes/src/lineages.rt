@@ -3,8 +3,7 @@ ghost use Rattle.std.specs.Prelude.{◌≡◌, ◌<◌, ◌≤◌, ◌∷◌, �
 ghost use Rattle.std.specs.List.{list_any};
 ghost use Rattle.wf_model.specs.Accepted.{IsAccepted};
 ghost use Rattle.wf_model.specs.Tree.{list_from, is_above, kind};
-ghost use Rattle.wf_scopes.specs.Tables.{lineages_of, below_of, below_ids};
-ghost use Rattle.wf_model.specs.declared.limits.TheConstants.{MAX_STATES};
+ghost use Rattle.wf_scopes.specs.Tables.{lineages_of};
 
 use std::alloc::Global;
 use wf_model::{Chart, Kind, List, NoMemory, StateId};
@@ -55,46 +54,6 @@ pub fn is_above(lineages: &[List<StateId>], chart: &Chart, a: StateId, b: StateI
     ensures { result ≡ is_above chart.now a.0 b.0 }
 {
     has_id(lineages[b.0 as usize].as_slice(), a)
-}
-
-/// The states below state `s`, ascending. Grows with the states times their depth.
-fn states_below(
-    alloc: Global,
-    lineages: &[List<StateId>],
-    chart: &Chart,
-    s: StateId,
-) -> Result<List<StateId>, NoMemory>
-    requires of { lineages.now ≡ lineages_of chart.now }
-    requires few { length chart.now.states ≤ MAX_STATES }
-    ensures { IfOk result (λ ids. ids ≡ below_ids chart.now s.0) }
-{
-    let mut ids = List::new(alloc);
-    for z in 0..chart.states.len() {
-        let z = StateId(z as u32);
-        if is_above(lineages, chart, s, z) {
-            ids.push(z)?;
-        }
-    }
-    Ok(ids)
-}
-
-/// The states below each state. Grows with the square of the states times their depth.
-#[tactic(auto, using(crate::proofs::Rows::row_more), unfolding(crate::specs::Tables::below_of))]
-pub fn below(
-    alloc: Global,
-    lineages: &[List<StateId>],
-    chart: &Chart,
-) -> Result<List<List<StateId>>, NoMemory>
-    requires of { lineages.now ≡ lineages_of chart.now }
-    requires few { length chart.now.states ≤ MAX_STATES }
-    ensures { IfOk result (λ table. table ≡ below_of chart.now) }
-{
-    let mut table: List<List<StateId>> = List::new(alloc);
-    for s in 0..chart.states.len() {
-        let ids = states_below(alloc, lineages, chart, StateId(s as u32))?;
-        table.push(ids)?;
-    }
-    Ok(table)
 }
 
 /// The kind of a state. A number that no state has counts as basic.

@@ -4,7 +4,7 @@ ghost use Rattle.wf_model.specs.Tree.{scope, is_above};
 ghost use Rattle.wf_model.specs.declared.chart.Chart.{Chart as AnyChart};
 ghost use Rattle.wf_semantics.specs.Configuration.{is_in};
 ghost use Rattle.wf_semantics.specs.Entry.{entry_tree};
-ghost use Rattle.wf_scopes.specs.Tables.{tables_of, ancestor_ids, below_ids};
+ghost use Rattle.wf_scopes.specs.Tables.{tables_of, ancestor_ids};
 
 use crate::{entries, lineages, scope};
 use std::alloc::Global;
@@ -15,7 +15,6 @@ use wf_model::{Checked, List, NoMemory, StateId, TransId};
 #[derive(Debug, Drop)]
 pub struct Scopes {
     lineages: List<List<StateId>>,
-    below: List<List<StateId>>,
     scopes: List<StateId>,
     entries: List<List<bool>>,
 }
@@ -25,23 +24,21 @@ impl Model for Scopes {
 
     ghost Value = { Tables };
 
-    ghost view = { λ s. record { lineages = s.lineages; below = s.below; scopes = s.scopes; entries = s.entries } };
+    ghost view = { λ s. record { lineages = s.lineages; scopes = s.scopes; entries = s.entries } };
 }
 
 impl Scopes {
-    /// The tables of a chart. Grows with the states' square and with the transitions times the states, each times the
-    /// depth of states.
+    /// The tables of a chart. Grows with the states and with the transitions times the states, each times the depth of
+    /// states.
     pub fn of(alloc: Global, checked: &Checked) -> Result<Scopes, NoMemory>
         ensures { IfOk result (λ scopes. scopes ≡ tables_of checked.now) }
     {
         let chart = checked.chart();
         let lineages = lineages::lineages(alloc, chart)?;
-        let below = lineages::below(alloc, lineages.as_slice(), chart)?;
         let scopes = scope::scopes(alloc, lineages.as_slice(), chart)?;
         let entries = entries::entries(alloc, lineages.as_slice(), scopes.as_slice(), chart)?;
         Ok(Scopes {
             lineages,
-            below,
             scopes,
             entries,
         })
@@ -82,16 +79,6 @@ impl Scopes {
         ensures { (chart : AnyChart) → self.now ≡ tables_of chart → s.0 < length chart.states → result.now ≡ ancestor_ids chart s.0 }
     {
         match self.lineages.get(s.0 as usize) {
-            Some(ids) => ids.as_slice(),
-            None => &[],
-        }
-    }
-
-    /// The states that a state is a proper ancestor of, ascending. Takes no memory.
-    pub fn below(&self, s: StateId) -> &[StateId]
-        ensures { (chart : AnyChart) → self.now ≡ tables_of chart → s.0 < length chart.states → result.now ≡ below_ids chart s.0 }
-    {
-        match self.below.get(s.0 as usize) {
             Some(ids) => ids.as_slice(),
             None => &[],
         }

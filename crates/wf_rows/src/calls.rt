@@ -1,0 +1,90 @@
+//! The calls below the top call, each over a chart that is read and checked.
+ghost use Rattle.std.specs.Prelude.{IfOk, IsTrue};
+ghost use Rattle.wf_model.specs.Plain.{is_plain};
+
+use crate::inputs::SIDES;
+use std::alloc::Global;
+use std::test::Fail;
+use wf_audit::{CentralLine, ScriptFault, read_central};
+use wf_central::CentralState;
+use wf_check::check_plain;
+use wf_model::{Checked, Entry, EventId, Kind, List, Outer, OuterFault, StateId, TransId, UnitId};
+use wf_scopes::{Scopes, kind_of, parent_at};
+use wf_text::read_plain;
+
+/// The chart of a text.
+fn checked(alloc: Global, text: &str) -> Result<Checked, Fail>
+    ensures { IfOk result (λ chart. IsTrue (is_plain chart)) }
+{
+    let chart = read_plain(alloc, text.as_bytes())?;
+    match check_plain(alloc, chart)? {
+        Some(checked) => Ok(checked),
+        None => Err(Fail::from("refused")),
+    }
+}
+
+#[test]
+fn tables(rt: HostRuntime) -> Result<(), Fail> {
+    let alloc = rt.alloc();
+    let checked = checked(alloc, SIDES)?;
+    assert_eq!(rt; kind_of(checked.chart(), StateId(1)), Kind::And);
+    assert_eq!(rt; parent_at(checked.chart(), StateId(7)), Some(StateId(5)));
+    let scopes = Scopes::of(alloc, &checked)?;
+    let above = [StateId(5), StateId(1), StateId(0)];
+    assert_eq!(rt; scopes.lineage(StateId(7)), above.as_slice());
+    assert!(rt; scopes.above(StateId(1), StateId(7)));
+    assert!(rt; !scopes.above(StateId(7), StateId(7)));
+    assert_eq!(rt; scopes.scope(TransId(0)), StateId(2));
+    assert_eq!(rt; scopes.scope(TransId(1)), StateId(0));
+    // The second transition enters both sides, the one with its target and the other with its first state.
+    for (s, enters) in [(1, true), (3, true), (4, false), (6, false), (7, true)] {
+        assert_eq!(rt; scopes.enters(TransId(1), StateId(s)), enters, "at {s}");
+    }
+    Ok(())
+}
+
+#[test]
+fn steps(rt: HostRuntime) -> Result<(), Fail> {
+    let alloc = rt.alloc();
+    let checked = checked(alloc, SIDES)?;
+    let mut state = CentralState::first(alloc, &checked)?;
+    assert!(rt; state.is_in(StateId(3)));
+    assert_eq!(rt; state.taken(), 0);
+    let (here, there) = (UnitId(0), UnitId(1));
+    let outer = Outer::Happen(EventId(1));
+    assert_eq!(rt; state.may_admit(&checked, &[], here, &outer), Ok(()));
+    assert_eq!(rt;
+        state.may_admit(&checked, &[], there, &outer),
+        Err(OuterFault::WrongUnit)
+    );
+    let mut coming = List::new(alloc);
+    coming.push(Entry { unit: here, outer })?;
+    let notes = state.step(alloc, &checked, coming.as_slice())?;
+    assert_eq!(rt; notes.fired.as_slice(), [TransId(0)].as_slice());
+    assert!(rt; state.is_in(StateId(4)));
+    assert_eq!(rt; state.raised().len(), 0);
+    Ok(())
+}
+
+#[test]
+fn scripts(rt: HostRuntime) -> Result<(), Fail> {
+    let alloc = rt.alloc();
+    let checked = checked(alloc, SIDES)?;
+    let script = b"outer a event f\r\n# nothing\n step\nshow # now";
+    let lines = read_central(alloc, checked.chart(), script)?;
+    assert_eq!(rt; lines.len(), 4);
+    assert!(rt;
+        matches!(
+            lines.get(0),
+            Some(Some(CentralLine::Outer {
+                unit: UnitId(0),
+                outer: Outer::Happen(EventId(2)),
+            }))
+        )
+    );
+    assert!(rt; matches!(lines.get(1), Some(None)));
+    assert!(rt; matches!(lines.get(3), Some(Some(CentralLine::Show))));
+    let fault = read_central(alloc, checked.chart(), b"step\n\nouter f event a\n").err();
+    assert_eq!(rt; fault, Some(ScriptFault::Refused { line: 3 }));
+    Ok(())
+}

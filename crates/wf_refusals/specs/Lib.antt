@@ -1,0 +1,4 @@
+pub mod Lines
+pub mod TextFaults
+pub mod CheckFaults
+pub mod Accepted

@@ -1,0 +1,31 @@
+//! That a chart is accepted.
+ghost use Rattle.std.specs.Prelude.{◌≡◌, ◌++◌, OnOk};
+ghost use Rattle.std.specs.Fmt.{decimal};
+ghost use Rattle.wf_refusals.specs.Accepted as spec;
+
+use wf_model::{Bytes, Chart, NoMemory};
+use wf_words::append_number;
+
+// Appends a word and a number behind it.
+fn append_count(text: &mut Bytes, word: &[u8], count: usize) -> Result<(), NoMemory>
+    ensures { OnOk result (text.new ≡ text.old ++ word.now ++ decimal count) }
+{
+    text.append(word)?;
+    append_number(text, count as u64)
+}
+
+/// Appends the line of an accepted chart: its name, and how many it has of each kind.
+#[tactic(auto, unfolding(crate::specs::Accepted::accepted_line))]
+pub fn append_accepted(text: &mut Bytes, chart: &Chart) -> Result<(), NoMemory>
+    ensures { OnOk result (text.new ≡ text.old ++ spec.accepted_line chart.now) }
+{
+    text.append(b"accepted ")?;
+    text.append(chart.name.as_bytes())?;
+    append_count(text, b" units ", chart.units.len())?;
+    append_count(text, b" events ", chart.events.len())?;
+    append_count(text, b" vars ", chart.vars.len())?;
+    append_count(text, b" activities ", chart.acts.len())?;
+    append_count(text, b" states ", chart.states.len())?;
+    append_count(text, b" transitions ", chart.transitions.len())?;
+    text.append(b"\n")
+}

@@ -1,0 +1,35 @@
+//! Why a text means no chart.
+ghost use Rattle.std.specs.Prelude.{◌≡◌, ◌++◌, OnOk};
+ghost use Rattle.wf_refusals.specs.TextFaults as spec;
+ghost use Rattle.wf_refusals.specs.Lines.{refusal};
+
+use wf_model::{Bytes, NoMemory};
+use wf_text::ChartFault;
+use wf_words::append_number;
+
+fn append_placed(text: &mut Bytes, line: u32, col: u32, what: &[u8]) -> Result<(), NoMemory>
+    ensures { OnOk result (text.new ≡ text.old ++ refusal (spec.placed line col what.now)) }
+{
+    text.append(b"refused chart line ")?;
+    append_number(text, line.into())?;
+    text.append(b" column ")?;
+    append_number(text, col.into())?;
+    text.append(what)?;
+    text.append(b"\n")
+}
+
+/// Appends the line of a fault, with its line and its column; nothing for want of memory.
+#[tactic(auto, unfolding(crate::specs::TextFaults::text_fault_line))]
+pub fn append_text_fault(text: &mut Bytes, fault: ChartFault) -> Result<(), NoMemory>
+    ensures { OnOk result (text.new ≡ text.old ++ spec.text_fault_line fault) }
+{
+    match fault {
+        ChartFault::BadByte { line, col } => append_placed(text, line, col, b" bad byte"),
+        ChartFault::TooManyTokens { line, col } => append_placed(text, line, col, b" too many tokens"),
+        ChartFault::Syntax { line, col } => append_placed(text, line, col, b" syntax"),
+        ChartFault::UnknownName { line, col } => append_placed(text, line, col, b" unknown name"),
+        ChartFault::DoubleName { line, col } => append_placed(text, line, col, b" double name"),
+        ChartFault::Oversize { line, col } => append_placed(text, line, col, b" oversize"),
+        ChartFault::NoMemory => Ok(()),
+    }
+}

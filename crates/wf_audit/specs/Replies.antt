@@ -1,36 +1,21 @@
 -- The written text of replies.
-use Rattle.std.specs.Prelude.{ℕ, List, [], ◌∷◌, ◌++◌, flat_map, slice_get, if◌then◌else◌}
-use Rattle.std.specs.Option.{option_map_or}
+use Rattle.std.specs.Prelude.{ℕ, List, [], ◌∷◌, ◌++◌, flat_map, if◌then◌else◌}
 use Rattle.std.specs.Fmt.{decimal, signed_decimal}
 use lib.Chars.{codes}
 use Rattle.wf_model.specs.declared.ids.ActId.{ActId}
 use Rattle.wf_model.specs.declared.ids.EventId.{EventId}
 use Rattle.wf_model.specs.declared.ids.StateId.{StateId}
 use Rattle.wf_model.specs.declared.ids.TransId.{TransId}
-use Rattle.wf_model.specs.declared.ids.VarId.{VarId}
 use Rattle.wf_model.specs.declared.value.Val.{Val}
 use Rattle.wf_model.specs.declared.value.Val.TheVariants as v
 use Rattle.wf_model.specs.declared.chart.Chart.{Chart}
 use Rattle.wf_model.specs.declared.outer.Output.{Output}
 use Rattle.wf_model.specs.declared.outer.OuterFault.{OuterFault}
 use Rattle.wf_model.specs.declared.outer.OuterFault.TheVariants.{WrongUnit, NoItem, AlreadyDone, WrongOutput}
+use Rattle.wf_words.specs.Names.{act_name, event_name, state_name, var_name}
 use Rattle.wf_central.specs.declared.notes.StepNotes.{StepNotes}
 use Rattle.wf_audit.specs.declared.reply.Reply.{Reply}
 use Rattle.wf_audit.specs.declared.reply.Reply.TheVariants as reply
-
--- NAMES. A number that the chart hasn't has the empty name.
-
-abbrev pub state_name : Chart → StateId → List ℕ
-state_name chart s = option_map_or (λ state. state.name) (slice_get chart.states s.0) []
-
-abbrev pub var_name : Chart → VarId → List ℕ
-var_name chart x = option_map_or (λ var. var.name) (slice_get chart.vars x.0) []
-
-abbrev pub event_name : Chart → EventId → List ℕ
-event_name chart e = option_map_or (λ event. event.name) (slice_get chart.events e.0) []
-
-abbrev pub act_name : Chart → ActId → List ℕ
-act_name chart a = option_map_or (λ act. act.name) (slice_get chart.acts a.0) []
 
 -- PARTS
 

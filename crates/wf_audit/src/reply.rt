@@ -1,14 +1,15 @@
 //! Replies, and their text.
 ghost use Rattle.std.specs.Prelude.{◌≡◌, ◌++◌, OnOk, OnErr};
-ghost use Rattle.std.specs.Fmt.{decimal, signed_decimal};
+ghost use Rattle.std.specs.Fmt.{signed_decimal};
 ghost use Rattle.wf_audit.specs.Replies as spec;
 
 use itoa::Buffer;
 use std::alloc::Global;
 use wf_central::StepNotes;
 use wf_model::{
-    ActId, Bytes, Chart, EventId, List, NoMemory, OuterFault, Output, StateId, TransId, Val, VarId,
+    ActId, Bytes, Chart, EventId, List, NoMemory, OuterFault, Output, StateId, TransId, Val,
 };
+use wf_words::{act_name, append_number, event_name, state_name, var_name};
 
 /// The reply to a line of a script.
 #[derive(Debug, Drop)]
@@ -30,49 +31,6 @@ pub enum Reply {
         vars: List<Output>,
         raised: List<EventId>,
     },
-}
-
-fn state_name(chart: &Chart, state: StateId) -> &[u8]
-    ensures { result.now ≡ spec.state_name chart.now state }
-{
-    match chart.states.get(state.0 as usize) {
-        Some(state) => state.name.as_bytes(),
-        None => &[],
-    }
-}
-
-fn var_name(chart: &Chart, var: VarId) -> &[u8]
-    ensures { result.now ≡ spec.var_name chart.now var }
-{
-    match chart.vars.get(var.0 as usize) {
-        Some(var) => var.name.as_bytes(),
-        None => &[],
-    }
-}
-
-fn event_name(chart: &Chart, event: EventId) -> &[u8]
-    ensures { result.now ≡ spec.event_name chart.now event }
-{
-    match chart.events.get(event.0 as usize) {
-        Some(event) => event.name.as_bytes(),
-        None => &[],
-    }
-}
-
-fn act_name(chart: &Chart, act: ActId) -> &[u8]
-    ensures { result.now ≡ spec.act_name chart.now act }
-{
-    match chart.acts.get(act.0 as usize) {
-        Some(act) => act.name.as_bytes(),
-        None => &[],
-    }
-}
-
-fn append_number(text: &mut Bytes, number: u32) -> Result<(), NoMemory>
-    ensures { OnOk result (text.new ≡ text.old ++ decimal number) }
-{
-    let mut digits = Buffer::new();
-    text.append(digits.format(number).as_bytes())
 }
 
 fn append_int(text: &mut Bytes, number: i64) -> Result<(), NoMemory>
@@ -102,7 +60,7 @@ fn append_fired(text: &mut Bytes, fired: &[TransId]) -> Result<(), NoMemory>
 {
     for transition in fired {
         text.append(b" t")?;
-        append_number(text, transition.0)?;
+        append_number(text, transition.0.into())?;
     }
     Ok(())
 }
@@ -114,7 +72,7 @@ fn append_starts(text: &mut Bytes, chart: &Chart, starts: &[(ActId, u32)]) -> Re
         text.append(b" ")?;
         text.append(act_name(chart, *act))?;
         text.append(b"#")?;
-        append_number(text, *item)?;
+        append_number(text, (*item).into())?;
     }
     Ok(())
 }
@@ -171,7 +129,7 @@ fn append_step(
     ensures { OnOk result (text.new ≡ text.old ++ spec.step_text chart.now step notes.now) }
 {
     text.append(b"step ")?;
-    append_number(text, step)?;
+    append_number(text, step.into())?;
     text.append(b" fired")?;
     append_fired(text, notes.fired.as_slice())?;
     text.append(b" starts")?;
@@ -189,7 +147,7 @@ fn append_sight(
     ensures { OnOk result (text.new ≡ text.old ++ spec.sight_text chart.now taken states.now vars.now raised.now) }
 {
     text.append(b"after ")?;
-    append_number(text, taken)?;
+    append_number(text, taken.into())?;
     text.append(b" in")?;
     append_states(text, chart, states)?;
     text.append(b" vars")?;
@@ -236,7 +194,7 @@ pub fn append_reply(
     ensures err { OnErr result (text.new ≡ text.old) }
 {
     let mut written = List::new(alloc);
-    append_number(&mut written, line)?;
+    append_number(&mut written, line.into())?;
     written.append(b": ")?;
     append_text(&mut written, chart, reply)?;
     written.push(b'\n')?;

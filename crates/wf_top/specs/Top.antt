@@ -1,11 +1,14 @@
 -- Which status the program may end with, and what it has written then.
-use Rattle.std.specs.Prelude.{◌≡◌, ◌≤◌, ℕ, List, true, false, length, take, Option, IfSome}
+use Rattle.std.specs.Prelude.{◌≡◌, ◌≤◌, ℕ, List, None, Some, length, take, Option, IfSome}
 use Rattle.std.specs.Io.KnownBytes.{Appends, Keeps, IsAtEnd}
 use lib.Chars.{codes}
 use Rattle.wf_model.specs.declared.status.Status.{Status}
 use Rattle.wf_model.specs.declared.status.Status.TheVariants as status
 use Rattle.wf_io.specs.Causes.{Rose}
-use Rattle.wf_top.specs.Answers.{answer_of, refusal, is_central}
+use Rattle.wf_refusals.specs.Lines.{refusal}
+use Rattle.wf_top.specs.declared.command.Command.{Command}
+use Rattle.wf_top.specs.declared.answer.Answer.{Answer}
+use Rattle.wf_top.specs.Answers.{answer, answer_of, command_of}
 
 -- source and sink at one moment: the bytes that the source has left and those that the sink holds, where they tell, and how
 -- often each has failed
@@ -20,23 +23,29 @@ pub record IsUnread (before after : Ends) : Type 0 where
   pub left : after.left ≡ before.left
   pub faults : after.read_faults ≡ before.read_faults
 
--- the words name the command, no read failed, and this is the answer to the bytes that the source had left
-pub record Answers (words : List (List ℕ)) (before after : Ends) (s : Status) (text : List ℕ) : Type 0 where
-  pub command : is_central words ≡ true
+-- the words name a command, no read failed, and this is the command's answer to the bytes that the source had left
+pub record Answers (words : List (List ℕ)) (before after : Ends) (a : Answer) : Type 0 where
+  pub command : Command
+  pub named : command_of words ≡ Some command
   pub faults : after.read_faults ≡ before.read_faults
-  pub answer : IfSome before.left (λ input. answer_of input ≡ record { status = s; text = text })
+  pub answer : IfSome before.left (λ input. answer_of command input ≡ a)
+
+-- the words name a command, and a read failed
+pub record IsUnreadable (words : List (List ℕ)) (before after : Ends) : Type 0 where
+  pub command : Command
+  pub named : command_of words ≡ Some command
+  pub faults : Rose before.read_faults after.read_faults
 
 -- this status with this text is due, by the words, by the bytes that the source had left, and by whether a read failed
 abbrev pub IsDue : List (List ℕ) → Ends → Ends → Status → List ℕ → Type 0
-IsDue words before after status.Ok text = Answers words before after status.Ok text × IsAtEnd after.left
-IsDue words before after status.Unbuilt text = Answers words before after status.Unbuilt text × IsAtEnd after.left
-IsDue words before after status.Limit text = Answers words before after status.Limit text
-IsDue words before after status.Words text = (is_central words ≡ false) × IsUnread before after × (text ≡ refusal (codes "words"))
-IsDue words before after status.ReadFault text =
-    (is_central words ≡ true) × Rose before.read_faults after.read_faults × (text ≡ refusal (codes "read"))
+IsDue words before after status.Ok text = Answers words before after (answer status.Ok text) × IsAtEnd after.left
+IsDue words before after status.ChartRefused text = Answers words before after (answer status.ChartRefused text) × IsAtEnd after.left
+IsDue words before after status.Unbuilt text = Answers words before after (answer status.Unbuilt text) × IsAtEnd after.left
+IsDue words before after status.Limit text = Answers words before after (answer status.Limit text)
+IsDue words before after status.Words text = (command_of words ≡ None) × IsUnread before after × (text ≡ refusal (codes "words"))
+IsDue words before after status.ReadFault text = IsUnreadable words before after × (text ≡ refusal (codes "read"))
 IsDue words before after status.WriteFault text = ⊥
 IsDue words before after status.NoMemory text = ⊥
-IsDue words before after status.ChartRefused text = ⊥
 IsDue words before after status.ScriptRefused text = ⊥
 IsDue words before after status.DiskFault text = ⊥
 IsDue words before after status.Journals text = ⊥
@@ -64,10 +73,10 @@ MayAnswer words before after status.NoMemory = Keeps before.held after.held × (
 MayAnswer words before after status.WriteFault = IsBroken words before after
 MayAnswer words before after status.Ok = IsWritten words before after status.Ok
 MayAnswer words before after status.Words = IsWritten words before after status.Words
+MayAnswer words before after status.ChartRefused = IsWritten words before after status.ChartRefused
 MayAnswer words before after status.ReadFault = IsWritten words before after status.ReadFault
 MayAnswer words before after status.Limit = IsWritten words before after status.Limit
 MayAnswer words before after status.Unbuilt = IsWritten words before after status.Unbuilt
-MayAnswer words before after status.ChartRefused = ⊥
 MayAnswer words before after status.ScriptRefused = ⊥
 MayAnswer words before after status.DiskFault = ⊥
 MayAnswer words before after status.Journals = ⊥

@@ -1,5 +1,5 @@
 -- What is due, and that a run which writes it may end so.
-use Rattle.std.proofs.Common.{◌≡◌, ◌⊎◌, ◌≤◌, ◌<◌, ◌∙◌, ℕ, ◌++◌, List, true, false, nat_le, length, take, Option, Some, None, IfSome, refl, sym, ap, subst, inl, inr, arith, append-nil}
+use Rattle.std.proofs.Common.{◌≡◌, ◌⊎◌, ◌≤◌, ◌<◌, ◌∙◌, ℕ, ◌++◌, List, true, false, nat_le, length, take, Option, Some, None, Result, Ok, Err, IfSome, refl, sym, ap, subst, inl, inr, arith, append-nil}
 use Rattle.std.proofs.lemmas.Bool.Decides.{nat_tests}
 use Rattle.std.specs.Io.KnownBytes.{Appends, Consumes, IsAtEnd}
 use lib.Chars.{codes}
@@ -7,8 +7,14 @@ use Rattle.wf_model.specs.declared.limits.TheConstants.{MAX_INPUT}
 use Rattle.wf_model.specs.declared.status.Status.{Status}
 use Rattle.wf_model.specs.declared.status.Status.TheVariants as status
 use Rattle.wf_io.specs.Causes.{Rose}
-use Rattle.wf_top.specs.Answers.{Answer, answer_of, answer_to, run_in, refused}
-use Rattle.wf_top.specs.Top.{Ends, IsDue, MayAnswer}
+use Rattle.wf_model.specs.declared.chart.Chart.{Chart}
+use Rattle.wf_refusals.specs.Lines.{refusal}
+use Rattle.wf_audit.specs.Lines.{chart_part, script_part}
+use Rattle.wf_top.specs.declared.command.Command.{Command}
+use Rattle.wf_top.specs.declared.command.Command.TheVariants.{Check, Central}
+use Rattle.wf_top.specs.declared.answer.Answer.{Answer}
+use Rattle.wf_top.specs.Answers.{answer, answer_of, answer_within, chart_answer, run_answer, run_in, chart_in}
+use Rattle.wf_top.specs.Top.{Ends, Answers, IsDue, MayAnswer}
 
 -- the text was written whole, or a write failed behind a front part
 abbrev pub IsFinished : Ends → Ends → Status → List ℕ → Status → Type 0
@@ -20,12 +26,12 @@ whole : (words : List (List ℕ)) (before after : Ends) (s : Status) (text : Lis
     → after.write_faults ≡ before.write_faults → MayAnswer words before after s
 whole words before after status.Ok text due wrote same = record { text = text; due = due; written = wrote; faults = same }
 whole words before after status.Words text due wrote same = record { text = text; due = due; written = wrote; faults = same }
+whole words before after status.ChartRefused text due wrote same = record { text = text; due = due; written = wrote; faults = same }
 whole words before after status.ReadFault text due wrote same = record { text = text; due = due; written = wrote; faults = same }
 whole words before after status.Limit text due wrote same = record { text = text; due = due; written = wrote; faults = same }
 whole words before after status.Unbuilt text due wrote same = record { text = text; due = due; written = wrote; faults = same }
 whole words before after status.WriteFault text due wrote same = absurd due
 whole words before after status.NoMemory text due wrote same = absurd due
-whole words before after status.ChartRefused text due wrote same = absurd due
 whole words before after status.ScriptRefused text due wrote same = absurd due
 whole words before after status.DiskFault text due wrote same = absurd due
 whole words before after status.Journals text due wrote same = absurd due
@@ -37,24 +43,65 @@ finished words before after s text result due (inl (is, rose, (n, within, wrote)
     subst (MayAnswer words before after) (sym is) (record { wanted = s; text = text; count = n; due = due; within = within; written = wrote; faults = rose })
 finished words before after s text result due (inr (is, same, wrote)) = subst (MayAnswer words before after) (sym is) (whole words before after s text due wrote same)
 
+-- the statuses of answers to inputs that aren't too long
+abbrev pub IsAnswered : Status → Type 0
+IsAnswered status.Ok = Unit {0}
+IsAnswered status.ChartRefused = Unit {0}
+IsAnswered status.Unbuilt = Unit {0}
+IsAnswered _ = ⊥
+
+run_answered : (found : Option (List ℕ)) → IsAnswered (run_answer found).status
+run_answered None = tt
+run_answered (Some text) = tt
+
+chart_answered : (command : Command) (script : List ℕ) (found : Result Chart (List ℕ)) → IsAnswered (chart_answer command script found).status
+chart_answered command script (Err line) = tt
+chart_answered Check script (Ok chart) = tt
+chart_answered Central script (Ok chart) = run_answered (run_in chart script)
+
+within_answered : (command : Command) (input : List ℕ) → IsAnswered (answer_within command input).status
+unfolding answer_within
+within_answered command input = chart_answered command (script_part input) (chart_in (chart_part input))
+
+-- such an answer is due
+due_answer : (words : List (List ℕ)) (before after : Ends) (s : Status) (text : List ℕ) → IsAnswered s → Answers words before after (answer s text)
+    → IsAtEnd after.left → IsDue words before after s text
+due_answer words before after status.Ok text is a end = (a, end)
+due_answer words before after status.ChartRefused text is a end = (a, end)
+due_answer words before after status.Unbuilt text is a end = (a, end)
+due_answer words before after status.Limit text is a end = absurd is
+due_answer words before after status.Words text is a end = absurd is
+due_answer words before after status.ReadFault text is a end = absurd is
+due_answer words before after status.WriteFault text is a end = absurd is
+due_answer words before after status.NoMemory text is a end = absurd is
+due_answer words before after status.ScriptRefused text is a end = absurd is
+due_answer words before after status.DiskFault text is a end = absurd is
+due_answer words before after status.Journals text is a end = absurd is
+
+pub answer_due : (words : List (List ℕ)) (before after : Ends) (command : Command) (bytes : List ℕ) (s : Status) (text : List ℕ)
+    → answer s text ≡ answer_within command bytes → Answers words before after (answer s text) → IsAtEnd after.left → IsDue words before after s text
+answer_due words before after command bytes s text is a end =
+    due_answer words before after s text (subst (λ (x : Answer). IsAnswered x.status) (sym is) (within_answered command bytes)) a end
+
 -- more bytes than may be
-pub long_answer : (left : Option (List ℕ)) → IfSome left (λ bytes. MAX_INPUT < length bytes) → IfSome left (λ input. answer_of input ≡ refused status.Limit (codes "limit input"))
+pub long_answer : (command : Command) (left : Option (List ℕ)) → IfSome left (λ bytes. MAX_INPUT < length bytes)
+    → IfSome left (λ input. answer_of command input ≡ answer status.Limit (refusal (codes "limit input")))
 unfolding answer_of
-long_answer None h = tt
-long_answer (Some input) h = let long : nat_le (length input) MAX_INPUT ≡ false = grind (arith, nat_tests) in rw long refl
+long_answer command None h = tt
+long_answer command (Some input) h = let long : nat_le (length input) MAX_INPUT ≡ false = grind (arith, nat_tests) in rw long refl
 
-short_answer : (bytes : List ℕ) (found : Option (List ℕ)) → length bytes ≤ MAX_INPUT → found ≡ run_in bytes → answer_of bytes ≡ answer_to found
+short_answer : (command : Command) (bytes : List ℕ) → length bytes ≤ MAX_INPUT → answer_of command bytes ≡ answer_within command bytes
 unfolding answer_of
-short_answer bytes found h same = let short : nat_le (length bytes) MAX_INPUT ≡ true = grind (arith, nat_tests) in rw short (ap answer_to (sym same))
+short_answer command bytes h = let short : nat_le (length bytes) MAX_INPUT ≡ true = grind (arith, nat_tests) in rw short refl
 
-known_answer : (left after : Option (List ℕ)) (bytes : List ℕ) (answer : Answer) → Consumes left after bytes → IsAtEnd after → answer_of bytes ≡ answer
-    → IfSome left (λ input. answer_of input ≡ answer)
-known_answer None after bytes answer taken end is = tt
-known_answer (Some input) None bytes answer taken end is = absurd taken
-known_answer (Some input) (Some rest) bytes answer taken end is =
-    ap answer_of (taken ∙ ap (λ (l : List ℕ). bytes ++ l) end ∙ append-nil bytes) ∙ is
+known_answer : (command : Command) (left after : Option (List ℕ)) (bytes : List ℕ) (a : Answer) → Consumes left after bytes → IsAtEnd after
+    → answer_of command bytes ≡ a → IfSome left (λ input. answer_of command input ≡ a)
+known_answer command None after bytes a taken end is = tt
+known_answer command (Some input) None bytes a taken end is = absurd taken
+known_answer command (Some input) (Some rest) bytes a taken end is =
+    ap (answer_of command) (taken ∙ ap (λ (l : List ℕ). bytes ++ l) end ∙ append-nil bytes) ∙ is
 
 -- the answer to all that was left
-pub read_answer : (left after : Option (List ℕ)) (bytes : List ℕ) (found : Option (List ℕ)) → Consumes left after bytes → IsAtEnd after → length bytes ≤ MAX_INPUT → found ≡ run_in bytes
-    → IfSome left (λ input. answer_of input ≡ answer_to found)
-read_answer left after bytes found taken end within same = known_answer left after bytes (answer_to found) taken end (short_answer bytes found within same)
+pub read_answer : (command : Command) (left after : Option (List ℕ)) (bytes : List ℕ) (a : Answer) → Consumes left after bytes → IsAtEnd after
+    → length bytes ≤ MAX_INPUT → a ≡ answer_within command bytes → IfSome left (λ input. answer_of command input ≡ a)
+read_answer command left after bytes a taken end within is = known_answer command left after bytes a taken end (short_answer command bytes within ∙ sym is)

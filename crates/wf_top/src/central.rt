@@ -1,28 +1,15 @@
 //! The command `central`.
-ghost use Rattle.std.specs.Prelude.{◌≡◌, ◌≤◌, length, IsTrue, IfOk, IfSome, IfNone, None};
+ghost use Rattle.std.specs.Prelude.{◌≡◌, ◌≤◌, length, IsTrue, IfOk};
 ghost use Rattle.std.specs.Option.{option_map};
 ghost use Rattle.wf_model.specs.Plain.{is_plain};
 ghost use Rattle.wf_audit.specs.CentralText.{central_text};
 ghost use Rattle.wf_top.specs.Answers as spec;
 
 use std::alloc::Global;
-use wf_audit::{CentralLine, ScriptFault, divide, read_central, run_central};
-use wf_check::check_plain;
+use wf_audit::{CentralLine, ScriptFault, read_central, run_central};
+use wf_check::is_plain;
 use wf_model::limits::{MAX_INPUT, MAX_PLAIN_LINES};
-use wf_model::{Bytes, Chart, Checked, List, NoMemory};
-use wf_text::{TextFault, read_plain};
-
-// The chart that the text means, where it is plain and accepted.
-fn chart_in(alloc: Global, text: &[u8]) -> Result<Option<Checked>, NoMemory>
-    requires { length text.now ≤ MAX_INPUT }
-    ensures { IfOk result (λ chart. chart ≡ spec.chart_in text.now) }
-{
-    match read_plain(alloc, text) {
-        Ok(chart) => check_plain(alloc, chart),
-        Err(TextFault::NoMemory) => Err(NoMemory),
-        Err(_) => Ok(None),
-    }
-}
+use wf_model::{Bytes, Checked, List, NoMemory};
 
 // The lines of the script, where all are in the grammar and there are few enough.
 fn lines_in(
@@ -41,7 +28,7 @@ fn lines_in(
     }
 }
 
-// The text of the central run of a chart, where there are such lines.
+// The text of the central run of a plain chart, where there are such lines.
 fn text_in(alloc: Global, chart: &Checked, script: &[u8]) -> Result<Option<Bytes>, NoMemory>
     requires within { length script.now ≤ MAX_INPUT }
     requires plain { IsTrue (is_plain chart.now) }
@@ -53,15 +40,16 @@ fn text_in(alloc: Global, chart: &Checked, script: &[u8]) -> Result<Option<Bytes
     }
 }
 
-/// The text of the central run that the input asks for, where its chart is plain and accepted and its script has few
-/// lines, all in the grammar. None where it isn't so, and `NoMemory` where memory runs out.
-pub fn run_in(alloc: Global, input: &[u8]) -> Result<Option<Bytes>, NoMemory>
-    requires { length input.now ≤ MAX_INPUT }
-    ensures { IfOk result (λ text. text ≡ spec.run_in input.now) }
+/// The text of the central run of the script, where the chart is plain and the script has few lines, all in the grammar.
+/// None where it isn't so, and `NoMemory` where memory runs out.
+#[tactic(auto, unfolding(crate::specs::Answers::run_in))]
+pub fn run_in(alloc: Global, chart: &Checked, script: &[u8]) -> Result<Option<Bytes>, NoMemory>
+    requires { length script.now ≤ MAX_INPUT }
+    ensures { IfOk result (λ text. text ≡ spec.run_in chart.now script.now) }
 {
-    let parts = divide(input);
-    match chart_in(alloc, parts.chart)? {
-        Some(chart) => text_in(alloc, &chart, parts.script),
-        None => Ok(None),
+    if is_plain(chart.chart()) {
+        text_in(alloc, chart, script)
+    } else {
+        Ok(None)
     }
 }

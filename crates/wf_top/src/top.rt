@@ -2,24 +2,15 @@
 ghost use Rattle.std.specs.Prelude.{◌≡◌, ◌⊎◌, ◌≤◌, ℕ, length, take};
 ghost use Rattle.std.specs.Io.KnownBytes.{Appends};
 ghost use Rattle.wf_io.specs.Causes.{Rose};
-ghost use Rattle.wf_top.specs.Answers.{is_central};
 ghost use Rattle.wf_top.specs.Top.{MayAnswer};
 ghost use Rattle.wf_model.specs.declared.status.Status.TheVariants.{WriteFault};
 
-use crate::central::run_in;
+use crate::answer::answer;
+use crate::command::command_of;
 use std::alloc::Global;
 use wf_io::{Clock, InFault, Sink, Source, read_all, write_all};
 use wf_model::limits::MAX_INPUT;
 use wf_model::{Bytes, List, NoMemory, Status};
-
-fn is_central(words: &[Bytes]) -> bool
-    ensures { result ≡ is_central words.now }
-{
-    match words {
-        [word] => word.as_slice() == b"central".as_slice(),
-        _ => false,
-    }
-}
 
 // Writes the text, and ends with the status where that succeeds.
 fn finish<K: Sink>(sink: &mut K, status: Status, text: &[u8]) -> Status
@@ -34,10 +25,10 @@ fn finish<K: Sink>(sink: &mut K, status: Status, text: &[u8]) -> Status
 }
 
 /// Does what the words say over all that the source has left, writes to the sink, and tells how it ended. The word
-/// `central` runs the script of an input on its chart. No command reads the clock yet.
+/// `check` checks the chart of an input, the word `central` runs its script on the chart. No command reads the clock yet.
 ///
-/// Grows with the input and with what is written: the chart is checked in the square of its states at most, and a step
-/// grows with the states times their depth and with the transitions.
+/// Grows with the input, with what is written, and with the states times their depth; a step of a run grows with the
+/// states times their depth and with the transitions.
 pub fn mentor<S: Source, K: Sink, C: Clock>(
     alloc: Global,
     words: &List<Bytes>,
@@ -50,17 +41,16 @@ pub fn mentor<S: Source, K: Sink, C: Clock>(
         (record { left = S.left source.new; read_faults = S.faults source.new; held = K.held sink.new; write_faults = K.faults sink.new })
         result }
 {
-    if !is_central(words.as_slice()) {
+    let Some(command) = command_of(words.as_slice()) else {
         return finish(sink, Status::Words, b"refused words\n");
-    }
+    };
     match read_all(alloc, source, MAX_INPUT as u32) {
         Err(InFault::ReadFailed) => finish(sink, Status::ReadFault, b"refused read\n"),
         Err(InFault::TooLong) => finish(sink, Status::Limit, b"refused limit input\n"),
         Err(InFault::NoMemory) => Status::NoMemory,
-        Ok(input) => match run_in(alloc, input.as_slice()) {
+        Ok(input) => match answer(alloc, command, input.as_slice()) {
             Err(NoMemory) => Status::NoMemory,
-            Ok(None) => finish(sink, Status::Unbuilt, b"refused unbuilt\n"),
-            Ok(Some(text)) => finish(sink, Status::Ok, text.as_slice()),
+            Ok(found) => finish(sink, found.status, found.text.as_slice()),
         },
     }
 }

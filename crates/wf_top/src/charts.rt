@@ -1,0 +1,49 @@
+//! The chart of an input.
+ghost use Rattle.std.specs.Prelude.{◌≡◌, ◌≤◌, length, IfOk};
+ghost use Rattle.wf_model.specs.declared.limits.TheConstants.{MAX_INPUT};
+ghost use Rattle.wf_check.specs.FirstFault.{first_fault};
+ghost use Rattle.wf_refusals.specs.TextFaults.{text_fault_line};
+ghost use Rattle.wf_top.specs.Answers as spec;
+
+use std::alloc::Global;
+use wf_check::find_fault;
+use wf_model::{Bytes, Chart, Checked, List, NoMemory};
+use wf_refusals::{append_check_fault, append_text_fault};
+use wf_text::{ChartFault, read_chart};
+
+// The line of a text that means no chart.
+fn text_line(alloc: Global, fault: ChartFault) -> Result<Bytes, NoMemory>
+    ensures { IfOk result (λ line. line ≡ text_fault_line fault) }
+{
+    let mut line = List::new(alloc);
+    append_text_fault(&mut line, fault)?;
+    Ok(line)
+}
+
+// The chart, sealed, or the line of its first fault.
+fn checked(alloc: Global, chart: Chart) -> Result<Result<Checked, Bytes>, NoMemory>
+    ensures { IfOk result (λ found. found ≡ spec.chart_by chart (first_fault chart)) }
+{
+    match find_fault(alloc, &chart)? {
+        None => Ok(Ok(Checked::seal(chart))),
+        Some(fault) => {
+            let mut line = List::new(alloc);
+            append_check_fault(&mut line, &chart, fault)?;
+            Ok(Err(line))
+        }
+    }
+}
+
+/// The accepted chart that the text means, or the line of its first fault. Grows with the text, and with the states
+/// times their depth.
+#[tactic(auto, unfolding(crate::specs::Answers::chart_in))]
+pub fn chart_in(alloc: Global, text: &[u8]) -> Result<Result<Checked, Bytes>, NoMemory>
+    requires { length text.now ≤ MAX_INPUT }
+    ensures { IfOk result (λ found. found ≡ spec.chart_in text.now) }
+{
+    match read_chart(alloc, text) {
+        Ok(chart) => checked(alloc, chart),
+        Err(ChartFault::NoMemory) => Err(NoMemory),
+        Err(fault) => Ok(Err(text_line(alloc, fault)?)),
+    }
+}

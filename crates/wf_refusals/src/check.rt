@@ -50,7 +50,12 @@ fn append_part(text: &mut Bytes, rule: &[u8], what: What, at: u32) -> Result<(),
 }
 
 // Appends the line of a rule on a transition.
-fn append_transition(text: &mut Bytes, before: &[u8], t: TransId, behind: &[u8]) -> Result<(), NoMemory>
+fn append_transition(
+    text: &mut Bytes,
+    before: &[u8],
+    t: TransId,
+    behind: &[u8],
+) -> Result<(), NoMemory>
     ensures { OnOk result (text.new ≡ text.old ++ spec.check_line (before.now ++ decimal t.0 ++ behind.now)) }
 {
     text.append(b"refused check ")?;
@@ -84,7 +89,11 @@ fn append_type(text: &mut Bytes, chart: &Chart, place: TypePlace) -> Result<(), 
 
 /// Appends the line of the rule that a chart breaks, with the names that it has there; nothing for want of memory.
 #[tactic(auto, unfolding(crate::specs::CheckFaults::check_fault_line))]
-pub fn append_check_fault(text: &mut Bytes, chart: &Chart, fault: CheckFault) -> Result<(), NoMemory>
+pub fn append_check_fault(
+    text: &mut Bytes,
+    chart: &Chart,
+    fault: CheckFault,
+) -> Result<(), NoMemory>
     ensures { OnOk result (text.new ≡ text.old ++ spec.check_fault_line chart.now fault) }
 {
     match fault {

@@ -25,7 +25,12 @@ pub fn append_text_fault(text: &mut Bytes, fault: ChartFault) -> Result<(), NoMe
 {
     match fault {
         ChartFault::BadByte { line, col } => append_placed(text, line, col, b" bad byte"),
-        ChartFault::TooManyTokens { line, col } => append_placed(text, line, col, b" too many tokens"),
+        ChartFault::TooManyTokens { line, col } => append_placed(
+            text,
+            line,
+            col,
+            b" too many tokens",
+        ),
         ChartFault::Syntax { line, col } => append_placed(text, line, col, b" syntax"),
         ChartFault::UnknownName { line, col } => append_placed(text, line, col, b" unknown name"),
         ChartFault::DoubleName { line, col } => append_placed(text, line, col, b" double name"),

@@ -1,11 +1,11 @@
 -- decl = unit NAME ; | event NAME [ at UNIT ] ;
 use Rattle.std.specs.Prelude.{ℕ, zero, suc, Bool, true, false, if◌then◌else◌, length, Option, Some, None}
 use Rattle.wf_model.specs.declared.ids.UnitId.{UnitId}
-use Rattle.wf_text.specs.declared.names.Declared.TheVariants as declared_as_a
-use Rattle.wf_text.specs.declared.piece.Piece.{Piece}
-use Rattle.wf_text.specs.declared.piece.Piece.TheVariants as pieces
-use Rattle.wf_text.specs.Input as input
-use Rattle.wf_text.specs.Input.{Parser, ◌>>=◌, ◌>>◌, pure, peek, eat, expect, new_name, here, changed, next_unit, next_event, with_unit, with_event}
+use Rattle.wf_cursor.specs.declared.names.Declared.TheVariants as declared_as_a
+use Rattle.wf_cursor.specs.declared.piece.Piece.{Piece}
+use Rattle.wf_cursor.specs.declared.piece.Piece.TheVariants as pieces
+use Rattle.wf_cursor.specs.Input as input
+use Rattle.wf_cursor.specs.Input.{Parser, ◌>>=◌, ◌>>◌, pure, peek, eat, expect, new_name, here, changed, next_unit, next_event, with_unit, with_event}
 
 -- unit NAME ;
 unfoldable pub unit : Parser (Unit {0})

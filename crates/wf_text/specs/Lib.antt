@@ -1,7 +1,3 @@
-pub mod Fault
-pub mod Pieces
-pub mod Names
-pub mod Input
 pub mod Declarations
 pub mod Transitions
 pub mod States

@@ -5,11 +5,11 @@ use Rattle.wf_model.specs.declared.chart.Transition.{Transition}
 use Rattle.wf_lex.specs.declared.token.Token.{Token}
 use Rattle.wf_lex.specs.declared.token.LexFault.{LexFault}
 use Rattle.wf_lex.specs.Lex.{tokens_of}
-use Rattle.wf_text.specs.declared.fault.TextFault.{TextFault}
-use Rattle.wf_text.specs.declared.fault.TextFault.TheVariants.{NoMemory}
-use Rattle.wf_text.specs.declared.piece.Piece.TheVariants as pieces
-use Rattle.wf_text.specs.Fault.{fault_of}
-use Rattle.wf_text.specs.Input.{Input, Outcome, Parser, ◌>>=◌, ◌>>◌, pure, syntax, start_of, expect, name}
+use Rattle.wf_cursor.specs.declared.fault.TextFault.{TextFault}
+use Rattle.wf_cursor.specs.declared.fault.TextFault.TheVariants.{NoMemory}
+use Rattle.wf_cursor.specs.declared.piece.Piece.TheVariants as pieces
+use Rattle.wf_cursor.specs.Fault.{fault_of}
+use Rattle.wf_cursor.specs.Input.{Input, Outcome, Parser, ◌>>=◌, ◌>>◌, pure, syntax, start_of, expect, name, chart_with}
 use Rattle.wf_text.specs.Declarations.{declarations}
 use Rattle.wf_text.specs.States.{root}
 use Rattle.wf_text.specs.Transitions.{transitions}
@@ -29,10 +29,6 @@ contents = do
   found ← transitions
   finished
   pure (chart_name, found)
-
--- the chart of all that was read
-unfoldable pub chart_with : List ℕ → List Transition → Input → Chart
-chart_with chart_name found i = record { name = chart_name; units = i.units; events = i.events; vars = []; acts = []; states = i.states; transitions = found }
 
 abbrev pub chart_by : Outcome (List ℕ × List Transition) → Result Chart TextFault
 chart_by (Ok p) = Ok (chart_with p.0.0 p.0.1 p.1)

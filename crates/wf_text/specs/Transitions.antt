@@ -2,8 +2,8 @@
 use Rattle.std.specs.Prelude.{ℕ, zero, suc, if◌then◌else◌, List, [], ◌∷◌, ◌++◌, length, Option, Some, None}
 use Rattle.wf_model.specs.declared.ids.EventId.{EventId}
 use Rattle.wf_model.specs.declared.chart.Transition.{Transition}
-use Rattle.wf_text.specs.declared.piece.Piece.TheVariants as pieces
-use Rattle.wf_text.specs.Input.{Parser, ◌>>=◌, ◌>>◌, pure, here, sees, eat, expect, event, state}
+use Rattle.wf_cursor.specs.declared.piece.Piece.TheVariants as pieces
+use Rattle.wf_cursor.specs.Input.{Parser, ◌>>=◌, ◌>>◌, pure, here, sees, eat, expect, event, state}
 
 -- [ on EVENT ]
 unfoldable pub caused : Parser (Option EventId)

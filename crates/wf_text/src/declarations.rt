@@ -1,13 +1,10 @@
 //! Declarations of units and events.
 ghost use Rattle.std.specs.Prelude.{length};
-ghost use Rattle.wf_text.specs.Input.{Reads};
+ghost use Rattle.wf_cursor.specs.Input.{Reads};
 ghost use Rattle.wf_text.specs.Declarations as spec;
 
-use crate::TextFault;
-use crate::cursor::Cursor;
-use crate::names::Declared;
-use crate::piece::Piece;
 use std::alloc::Global;
+use wf_cursor::{Cursor, Declared, Piece, TextFault};
 use wf_model::{Event, UnitId};
 
 #[tactic(auto, unfolding(crate::specs::Declarations::unit))]

@@ -1,16 +1,14 @@
 //! The text of a chart.
 ghost use Rattle.std.specs.Prelude.{◌≡◌, ◌≤◌, length};
-ghost use Rattle.wf_text.specs.Input.{Reads};
+ghost use Rattle.wf_cursor.specs.Input.{Reads};
 ghost use Rattle.wf_text.specs.Text as spec;
 ghost use Rattle.wf_text.specs.Text.{Gives};
 
-use crate::TextFault;
-use crate::cursor::Cursor;
 use crate::declarations::declarations;
-use crate::piece::Piece;
 use crate::states::root;
 use crate::transitions::transitions;
 use std::alloc::Global;
+use wf_cursor::{Cursor, Piece, TextFault};
 use wf_lex::tokens;
 use wf_model::limits::MAX_INPUT;
 use wf_model::{Chart, List, Name, Transition};
@@ -42,7 +40,7 @@ pub fn read_plain(alloc: Global, text: &[u8]) -> Result<Chart, TextFault>
     let tokens = tokens(alloc, text)?;
     let mut cursor = Cursor::new(alloc, text, tokens.as_slice())?;
     let (name, found) = contents(alloc, &mut cursor)?;
-    Ok(cursor.into_chart(alloc, name, found))
+    Ok(cursor.into_chart(name, found))
 }
 
 #[cfg(test)]

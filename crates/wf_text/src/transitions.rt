@@ -1,12 +1,10 @@
 //! Transitions.
 ghost use Rattle.std.specs.Prelude.{length};
-ghost use Rattle.wf_text.specs.Input.{Reads};
+ghost use Rattle.wf_cursor.specs.Input.{Reads};
 ghost use Rattle.wf_text.specs.Transitions as spec;
 
-use crate::TextFault;
-use crate::cursor::Cursor;
-use crate::piece::Piece;
 use std::alloc::Global;
+use wf_cursor::{Cursor, Piece, TextFault};
 use wf_model::{EventId, List, Transition};
 
 #[tactic(auto, unfolding(crate::specs::Transitions::caused))]

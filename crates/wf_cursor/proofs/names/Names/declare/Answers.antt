@@ -1,9 +1,9 @@
 use Rattle.std.proofs.Common.{ℕ, Vec, refl, ap, ◌∙◌, ◌∷◌, [], ◌++◌}
 use Rattle.std.specs.Str.{bytes_eq}
 use Rattle.std.specs.declared.alloc.Global.{Global}
-use Rattle.wf_text.specs.Names.{declared_as}
-use Rattle.wf_text.proofs.Known.{shown-more}
-use Rattle.wf_text.proofs.names.Names.declare.Goals as goal
+use Rattle.wf_cursor.specs.Names.{declared_as}
+use Rattle.wf_cursor.proofs.Known.{shown-more}
+use Rattle.wf_cursor.proofs.names.Names.declare.Goals as goal
 
 pub returns : goal.returns
 returns c =

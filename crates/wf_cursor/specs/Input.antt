@@ -1,21 +1,29 @@
 -- What a rule reads from, and the steps that every rule is made of.
-use Rattle.std.specs.Prelude.{◌≡◌, ◌≢◌, ℕ, ◌+◌, ◌<◌, ◌≤◌, Bool, false, if◌then◌else◌, nat_le, List, [], ◌∷◌, ◌++◌, length, take as take_first, drop, slice_range, Option, Some, None, Result, Ok, Err}
+use Rattle.std.specs.Prelude.{◌≡◌, ◌≢◌, ℕ, ◌+◌, ◌<◌, ◌≤◌, Bool, false, if◌then◌else◌, nat_le, nat_lt, List, [], ◌∷◌, ◌++◌, length, take as take_first, drop, slice_range, Option, Some, None, Result, Ok, Err}
 use lib.Chars.{codes}
-use Rattle.wf_model.specs.declared.limits.TheConstants.{MAX_NAME}
+use Rattle.wf_model.specs.declared.limits.TheConstants.{MAX_NAME, MAX_NODES}
 use Rattle.wf_model.specs.declared.ids.UnitId.{UnitId}
 use Rattle.wf_model.specs.declared.ids.EventId.{EventId}
+use Rattle.wf_model.specs.declared.ids.VarId.{VarId}
+use Rattle.wf_model.specs.declared.ids.ActId.{ActId}
 use Rattle.wf_model.specs.declared.ids.StateId.{StateId}
 use Rattle.wf_model.specs.declared.chart.Event.{Event}
+use Rattle.wf_model.specs.declared.chart.Variable.{Variable}
+use Rattle.wf_model.specs.declared.chart.Activity.{Activity}
 use Rattle.wf_model.specs.declared.chart.State.{State}
+use Rattle.wf_model.specs.declared.chart.Transition.{Transition}
+use Rattle.wf_model.specs.declared.chart.Chart.{Chart}
 use Rattle.wf_lex.specs.declared.token.Token.{Token}
-use Rattle.wf_text.specs.declared.fault.TextFault.{TextFault}
-use Rattle.wf_text.specs.declared.fault.TextFault.TheVariants.{Syntax, UnknownName, DoubleName, Oversize, NoMemory}
-use Rattle.wf_text.specs.declared.names.Declared.{Declared}
-use Rattle.wf_text.specs.declared.names.Declared.TheVariants as declared_as_a
-use Rattle.wf_text.specs.declared.piece.Piece.{Piece}
-use Rattle.wf_text.specs.declared.piece.Piece.TheVariants as pieces
-use Rattle.wf_text.specs.Pieces.{piece_of, same_piece}
-use Rattle.wf_text.specs.Names.{declared_as}
+use Rattle.wf_cursor.specs.declared.fault.TextFault.{TextFault}
+use Rattle.wf_cursor.specs.declared.fault.TextFault.TheVariants.{Syntax, UnknownName, DoubleName, Oversize, NoMemory}
+use Rattle.wf_cursor.specs.declared.names.Declared.{Declared}
+use Rattle.wf_cursor.specs.declared.names.Declared.TheVariants as declared_as_a
+use Rattle.wf_cursor.specs.declared.piece.Piece.{Piece}
+use Rattle.wf_cursor.specs.declared.piece.Piece.TheVariants as pieces
+use Rattle.wf_cursor.specs.Pieces.{piece_of, same_piece}
+use Rattle.wf_cursor.specs.declared.value.TheConstants.{MAX_INT}
+use Rattle.wf_cursor.specs.Names.{declared_as}
+use Rattle.wf_cursor.specs.Values.{number_up_to, short_text}
 
 pub record Input : Type 0 where
   -- the text, its tokens that are left, and how many were read
@@ -25,9 +33,13 @@ pub record Input : Type 0 where
   -- what was declared so far
   pub units : List (List ℕ)
   pub events : List Event
+  pub vars : List Variable
+  pub acts : List Activity
   pub states : List State
   -- all names so far, but the chart's
   pub names : List (List ℕ × Declared)
+  -- how many nodes the expression that is being read has so far
+  pub nodes : ℕ
 
 -- before the first token, with the event `fault` declared
 unfoldable pub start_of : List ℕ → List Token → Input
@@ -37,8 +49,11 @@ start_of text tokens = record {
   at = 0;
   units = [];
   events = record { name = codes "fault"; unit = None } ∷ [];
+  vars = [];
+  acts = [];
   states = [];
   names = (codes "fault", declared_as_a.Event (record { 0 = 0 })) ∷ [];
+  nodes = 0;
 }
 
 -- ---- the next token
@@ -179,6 +194,22 @@ event_by _ = unknown_name
 unfoldable pub event : Parser EventId
 event = name_ahead >> (λ i. event_by (declared i) i)
 
+abbrev pub variable_by : Option Declared → Parser VarId
+variable_by (Some (declared_as_a.Var x)) = take >> pure x
+variable_by _ = unknown_name
+
+-- the name of a variable
+unfoldable pub variable : Parser VarId
+variable = name_ahead >> (λ i. variable_by (declared i) i)
+
+abbrev pub activity_by : Option Declared → Parser ActId
+activity_by (Some (declared_as_a.Activity a)) = take >> pure a
+activity_by _ = unknown_name
+
+-- the name of an activity
+unfoldable pub activity : Parser ActId
+activity = name_ahead >> (λ i. activity_by (declared i) i)
+
 abbrev pub state_by : Option Declared → Parser StateId
 state_by (Some (declared_as_a.State s)) = take >> pure s
 state_by _ = unknown_name
@@ -187,24 +218,70 @@ state_by _ = unknown_name
 unfoldable pub state : Parser StateId
 state = name_ahead >> (λ i. state_by (declared i) i)
 
+-- ---- Ints, Texts and nodes
+
+abbrev pub int_by : Option ℕ → Parser ℕ
+int_by (Some n) = take >> pure n
+int_by None = oversize
+
+-- an Int of at most this
+unfoldable pub int_up_to : ℕ → Parser ℕ
+int_up_to most = λ i. if sees pieces.Int i then int_by (number_up_to most (spelling i)) i else syntax i
+
+-- an Int
+unfoldable pub int : Parser ℕ
+int = int_up_to MAX_INT
+
+-- the Int behind the `-` of a literal
+unfoldable pub negated_int : Parser ℕ
+negated_int = int_up_to (MAX_INT + 1)
+
+abbrev pub text_by : Option (List ℕ) → Parser (List ℕ)
+text_by (Some t) = take >> pure t
+text_by None = oversize
+
+-- a Text, as its characters
+unfoldable pub text : Parser (List ℕ)
+text = λ i. if sees pieces.Text i then text_by (short_text (spelling i)) i else syntax i
+
+-- an expression begins
+unfoldable pub without_nodes : Input → Input
+without_nodes i = record i { nodes = 0 }
+
+-- the next token makes a node, of which an expression has at most MAX_NODES
+unfoldable pub node : Parser (Unit {0})
+node = λ i. if nat_lt i.nodes MAX_NODES then Ok (tt, record i { nodes = i.nodes + 1 }) else oversize i
+
 -- ---- declarations
 
--- the number that the next unit, event or state has
+-- the number that the next unit, event, variable, activity or state has
 unfoldable pub next_unit : Input → UnitId
 next_unit i = record { 0 = length i.units }
 
 unfoldable pub next_event : Input → EventId
 next_event i = record { 0 = length i.events }
 
+unfoldable pub next_var : Input → VarId
+next_var i = record { 0 = length i.vars }
+
+unfoldable pub next_act : Input → ActId
+next_act i = record { 0 = length i.acts }
+
 unfoldable pub next_state : Input → StateId
 next_state i = record { 0 = length i.states }
 
--- one unit, event or state more
+-- one unit, event, variable, activity or state more
 unfoldable pub with_unit : List ℕ → Input → Input
 with_unit name i = record i { units = i.units ++ name ∷ [] }
 
 unfoldable pub with_event : Event → Input → Input
 with_event event i = record i { events = i.events ++ event ∷ [] }
+
+unfoldable pub with_var : Variable → Input → Input
+with_var var i = record i { vars = i.vars ++ var ∷ [] }
+
+unfoldable pub with_act : Activity → Input → Input
+with_act act i = record i { acts = i.acts ++ act ∷ [] }
 
 unfoldable pub with_state : State → Input → Input
 with_state state i = record i { states = i.states ++ state ∷ [] }
@@ -213,7 +290,13 @@ with_state state i = record i { states = i.states ++ state ∷ [] }
 pub record HasRoom (i : Input) : Type 0 where
   pub units : length i.units < i.at
   pub events : length i.events ≤ i.at
+  pub vars : length i.vars < i.at
+  pub acts : length i.acts < i.at
   pub states : length i.states < i.at
+
+-- the chart of all that was read
+unfoldable pub chart_with : List ℕ → List Transition → Input → Chart
+chart_with chart_name found i = record { name = chart_name; units = i.units; events = i.events; vars = i.vars; acts = i.acts; states = i.states; transitions = found }
 
 -- ---- what a function of the reader ensures: the rule's outcome, unless memory runs out
 

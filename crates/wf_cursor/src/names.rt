@@ -1,17 +1,19 @@
 //! The names that are declared.
 ghost use Rattle.std.specs.Prelude.{◌≡◌, [], ◌∷◌, ◌++◌, None, OnOk};
-ghost use Rattle.wf_text.specs.Names as spec;
+ghost use Rattle.wf_cursor.specs.Names as spec;
 
 use indexmap::IndexMap;
 use std::alloc::Global;
 use std::marker::Model;
-use wf_model::{EventId, NoMemory, StateId, UnitId};
+use wf_model::{ActId, EventId, NoMemory, StateId, UnitId, VarId};
 
 /// What a name is declared as.
 #[derive(Clone, Copy, Debug, PartialEq, Eq)]
 pub enum Declared {
     Unit(UnitId),
     Event(EventId),
+    Var(VarId),
+    Activity(ActId),
     State(StateId),
 }
 
@@ -23,7 +25,7 @@ pub struct Names {
 
 impl Model for Names {
     ghost use Rattle.std.specs.Prelude.{List, ℕ, map};
-    ghost use Rattle.wf_text.specs.declared.names.Declared.{Declared};
+    ghost use Rattle.wf_cursor.specs.declared.names.Declared.{Declared};
 
     ghost Value = { List (List ℕ × Declared) };
 

@@ -1,7 +1,7 @@
 //! Why a text means no chart.
 ghost use Rattle.std.specs.Prelude.{◌≡◌};
-ghost use Rattle.wf_text.specs.Fault.{fault_of};
-ghost use Rattle.wf_text.specs.declared.fault.TextFault.TheVariants.{NoMemory};
+ghost use Rattle.wf_cursor.specs.Fault.{fault_of};
+ghost use Rattle.wf_cursor.specs.declared.fault.TextFault.TheVariants.{NoMemory};
 
 use std::alloc::{AllocError, AllocFailed};
 use thiserror::Error;
@@ -17,7 +17,7 @@ pub enum TextFault {
     /// The first token above the limit starts with this byte.
     #[error("too many tokens at {at}")]
     TooManyTokens { at: u32 },
-    /// No rule goes on with this token.
+    /// No text of the grammar has this token behind those before it.
     #[error("syntax at token {at}")]
     Syntax { at: usize },
     /// This name isn't declared as what is wanted here.
@@ -26,7 +26,8 @@ pub enum TextFault {
     /// This name was declared before.
     #[error("double name at token {at}")]
     DoubleName { at: usize },
-    /// This name is too long, or this brace opens too deep.
+    /// This name, Text or Int is too large, this brace or parenthesis is one too many open ones, or this token would
+    /// make one node too many of its expression.
     #[error("oversize at token {at}")]
     Oversize { at: usize },
     #[error("out of memory")]

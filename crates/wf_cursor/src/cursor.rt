@@ -1,17 +1,20 @@
 //! A cursor over the tokens of a text.
-ghost use Rattle.std.specs.Prelude.{◌≡◌, ◌≤◌, ◌<◌, true, None, length, slice_range, IfOk, IfSome, OnOk};
-ghost use Rattle.wf_text.specs.Input as spec;
-ghost use Rattle.wf_text.specs.Input.{Reads, HasRoom};
-ghost use Rattle.wf_text.specs.Text.{chart_with};
+ghost use Rattle.std.specs.Prelude.{◌≡◌, ◌≤◌, ◌<◌, ◌^◌, true, None, length, drop, slice_range, IfOk, IfSome, OnOk};
+ghost use Rattle.wf_cursor.specs.Input as spec;
+ghost use Rattle.wf_cursor.specs.Input.{Reads, HasRoom, chart_with};
 
 use crate::TextFault;
 use crate::names::{Declared, Names};
 use crate::piece::{Piece, piece_of, same_piece};
+use crate::value::{MAX_INT, number_up_to, short_text};
 use std::alloc::Global;
 use std::marker::Model;
 use wf_lex::Token;
-use wf_model::limits::{MAX_NAME, MAX_TOKENS};
-use wf_model::{Chart, Event, EventId, List, Name, NoMemory, State, StateId, Transition, UnitId};
+use wf_model::limits::{MAX_NAME, MAX_NODES, MAX_TOKENS};
+use wf_model::{
+    ActId, Activity, Chart, Event, EventId, List, Name, NoMemory, State, StateId, Transition, Txt,
+    UnitId, VarId, Variable,
+};
 
 /// What is left of the tokens, and the chart and the names so far.
 #[derive(Drop)]
@@ -21,21 +24,24 @@ pub struct Cursor<'a> {
     at: usize,
     units: List<Name>,
     events: List<Event>,
+    vars: List<Variable>,
+    acts: List<Activity>,
     states: List<State>,
     names: Names,
+    nodes: usize,
 }
 
 impl<'a> Model for Cursor<'a> {
     ghost use Rattle.std.specs.Prelude.{◌≤◌, ◌+◌, length, drop};
     ghost use Rattle.wf_model.specs.declared.limits.TheConstants.{MAX_TOKENS};
-    ghost use Rattle.wf_text.specs.Input.{Input};
+    ghost use Rattle.wf_cursor.specs.Input.{Input};
 
     ghost Value = { Input };
 
-    ghost view = { λ c. record { text = c.text.now; left = drop c.at c.tokens.now; at = c.at; units = c.units; events = c.events; states = c.states; names = c.names } };
+    ghost view = { λ c. record { text = c.text.now; left = drop c.at c.tokens.now; at = c.at; units = c.units; events = c.events; vars = c.vars; acts = c.acts; states = c.states; names = c.names; nodes = c.nodes } };
 
     // Each declaration takes a token of its own, so the counts fit the numbers of the parts.
-    ghost invariant = { λ c. (c.at ≤ length c.tokens.now) × (length c.tokens.now ≤ MAX_TOKENS) × (length c.units ≤ c.at) × (length c.events ≤ c.at + 1) × (length c.states ≤ c.at) };
+    ghost invariant = { λ c. (c.at ≤ length c.tokens.now) × (length c.tokens.now ≤ MAX_TOKENS) × (length c.units ≤ c.at) × (length c.events ≤ c.at + 1) × (length c.vars ≤ c.at) × (length c.acts ≤ c.at) × (length c.states ≤ c.at) };
 }
 
 // The bytes from the first place to before the second, as far as there are any.
@@ -66,8 +72,11 @@ impl<'a> Cursor<'a> {
             at: 0,
             units: List::new(alloc),
             events,
+            vars: List::new(alloc),
+            acts: List::new(alloc),
             states: List::new(alloc),
             names,
+            nodes: 0,
         })
     }
 
@@ -113,6 +122,7 @@ impl<'a> Cursor<'a> {
     #[tactic(auto, unfolding(crate::specs::Input::next))]
     pub fn take(&mut self)
         ensures next { self.new ≡ spec.next self.old }
+        ensures left { self.new.left ≡ drop 1 self.old.left }
         ensures room { 0 < length self.old.left → HasRoom self.new }
     {
         if self.at < self.tokens.len() {
@@ -127,7 +137,7 @@ impl<'a> Cursor<'a> {
         TextFault::Syntax { at: self.at }
     }
 
-    /// The fault that the next token is a name too long or a brace too deep.
+    /// The fault that the next token is too large, or one too many of its kind.
     pub fn oversize(&self) -> TextFault
         ensures { result ≡ TextFault.Oversize self.now.at }
     {
@@ -273,6 +283,36 @@ impl<'a> Cursor<'a> {
         }
     }
 
+    /// Takes the name of a variable.
+    #[tactic(auto, unfolding(crate::specs::Input::variable))]
+    pub fn variable(&mut self) -> Result<VarId, TextFault>
+        ensures { Reads (spec.variable self.old) result self.new }
+    {
+        self.name_ahead()?;
+        match self.declared() {
+            Some(Declared::Var(variable)) => {
+                self.take();
+                Ok(variable)
+            }
+            _ => Err(self.unknown_name()),
+        }
+    }
+
+    /// Takes the name of an activity.
+    #[tactic(auto, unfolding(crate::specs::Input::activity))]
+    pub fn activity(&mut self) -> Result<ActId, TextFault>
+        ensures { Reads (spec.activity self.old) result self.new }
+    {
+        self.name_ahead()?;
+        match self.declared() {
+            Some(Declared::Activity(activity)) => {
+                self.take();
+                Ok(activity)
+            }
+            _ => Err(self.unknown_name()),
+        }
+    }
+
     /// Takes the name of a state.
     #[tactic(auto, unfolding(crate::specs::Input::state))]
     pub fn state(&mut self) -> Result<StateId, TextFault>
@@ -285,6 +325,82 @@ impl<'a> Cursor<'a> {
                 Ok(state)
             }
             _ => Err(self.unknown_name()),
+        }
+    }
+
+    /// Takes an Int of at most this.
+    #[tactic(auto, unfolding(crate::specs::Input::int_up_to))]
+    fn int_up_to(&mut self, most: u64) -> Result<u64, TextFault>
+        requires { most < u64.MAX }
+        ensures reads { Reads (spec.int_up_to most self.old) result self.new }
+        ensures fits { IfOk result (λ number. number ≤ most) }
+    {
+        if !self.sees(Piece::Int) {
+            return Err(self.syntax());
+        }
+        match number_up_to(most, self.spelling()) {
+            Some(number) => {
+                self.take();
+                Ok(number)
+            }
+            None => Err(self.oversize()),
+        }
+    }
+
+    /// Takes an Int of at most 9223372036854775807.
+    #[tactic(auto, unfolding(crate::specs::Input::int))]
+    pub fn int(&mut self) -> Result<u64, TextFault>
+        ensures reads { Reads (spec.int self.old) result self.new }
+        ensures fits { IfOk result (λ number. number < 2 ^ 63) }
+    {
+        self.int_up_to(MAX_INT)
+    }
+
+    /// Takes an Int that stands behind the `-` of a literal, so that it may be greater by one.
+    #[tactic(auto, unfolding(crate::specs::Input::negated_int))]
+    pub fn negated_int(&mut self) -> Result<u64, TextFault>
+        ensures reads { Reads (spec.negated_int self.old) result self.new }
+        ensures fits { IfOk result (λ number. number ≤ 2 ^ 63) }
+    {
+        self.int_up_to(MAX_INT + 1)
+    }
+
+    /// Takes a Text of at most 64 characters.
+    #[tactic(auto, unfolding(crate::specs::Input::text))]
+    pub fn text(&mut self) -> Result<Txt, TextFault>
+        ensures { Reads (spec.text self.old) result self.new }
+    {
+        if !self.sees(Piece::Text) {
+            return Err(self.syntax());
+        }
+        match short_text(self.spelling()) {
+            Some(text) => {
+                self.take();
+                Ok(text)
+            }
+            None => Err(self.oversize()),
+        }
+    }
+
+    /// Begins an expression, which has no node yet.
+    #[tactic(auto, unfolding(crate::specs::Input::without_nodes))]
+    pub fn forget_nodes(&mut self)
+        ensures { self.new ≡ spec.without_nodes self.old }
+    {
+        self.nodes = 0;
+    }
+
+    /// Counts the node that the next token makes, of which an expression has at most 64. Takes no token.
+    #[tactic(auto, unfolding(crate::specs::Input::node))]
+    pub fn node(&mut self) -> Result<(), TextFault>
+        ensures reads { Reads (spec.node self.old) result self.new }
+        ensures left { self.new.left ≡ self.old.left }
+    {
+        if self.nodes < MAX_NODES {
+            self.nodes += 1;
+            Ok(())
+        } else {
+            Err(self.oversize())
         }
     }
 
@@ -302,6 +418,22 @@ impl<'a> Cursor<'a> {
         ensures { result ≡ spec.next_event self.now }
     {
         EventId(self.events.len() as u32)
+    }
+
+    /// The number of the variable that is declared next.
+    #[tactic(auto, unfolding(crate::specs::Input::next_var))]
+    pub fn next_var(&self) -> VarId
+        ensures { result ≡ spec.next_var self.now }
+    {
+        VarId(self.vars.len() as u32)
+    }
+
+    /// The number of the activity that is declared next.
+    #[tactic(auto, unfolding(crate::specs::Input::next_act))]
+    pub fn next_act(&self) -> ActId
+        ensures { result ≡ spec.next_act self.now }
+    {
+        ActId(self.acts.len() as u32)
     }
 
     /// The number of the state that is declared next.
@@ -330,6 +462,24 @@ impl<'a> Cursor<'a> {
         self.events.push(event)
     }
 
+    /// Adds a variable, for which a token was taken. In constant time on average.
+    #[tactic(auto, unfolding(crate::specs::Input::with_var))]
+    pub fn add_var(&mut self, var: Variable) -> Result<(), NoMemory>
+        requires { HasRoom self.old }
+        ensures { OnOk result (self.new ≡ spec.with_var var self.old) }
+    {
+        self.vars.push(var)
+    }
+
+    /// Adds an activity, for which a token was taken. In constant time on average.
+    #[tactic(auto, unfolding(crate::specs::Input::with_act))]
+    pub fn add_act(&mut self, act: Activity) -> Result<(), NoMemory>
+        requires { HasRoom self.old }
+        ensures { OnOk result (self.new ≡ spec.with_act act self.old) }
+    {
+        self.acts.push(act)
+    }
+
     /// Adds a state, for which a token was taken. In constant time on average.
     #[tactic(auto, unfolding(crate::specs::Input::with_state))]
     pub fn add_state(&mut self, state: State) -> Result<(), NoMemory>
@@ -340,13 +490,15 @@ impl<'a> Cursor<'a> {
     }
 
     /// The chart of all that was read. Takes no memory.
-    #[tactic(auto, unfolding(crate::specs::Text::chart_with))]
-    pub fn into_chart(self, alloc: Global, name: Name, transitions: List<Transition>) -> Chart
+    #[tactic(auto, unfolding(crate::specs::Input::chart_with))]
+    pub fn into_chart(self, name: Name, transitions: List<Transition>) -> Chart
         ensures { result ≡ chart_with name transitions self.entry }
     {
         let Cursor {
             units,
             events,
+            vars,
+            acts,
             states,
             names: _,
             ..
@@ -355,8 +507,8 @@ impl<'a> Cursor<'a> {
             name,
             units,
             events,
-            vars: List::new(alloc),
-            acts: List::new(alloc),
+            vars,
+            acts,
             states,
             transitions,
         }

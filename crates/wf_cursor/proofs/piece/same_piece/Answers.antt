@@ -1,8 +1,8 @@
 use Rattle.std.proofs.Common.{rules, sym, ◌∙◌}
 use denote.Enum.Bare.{same_true}
-use Rattle.wf_text.specs.contracts.piece.Piece.{the_type}
-use Rattle.wf_text.specs.Pieces.{same_piece}
-use Rattle.wf_text.proofs.piece.same_piece.Goals as goal
+use Rattle.wf_cursor.specs.contracts.piece.Piece.{the_type}
+use Rattle.wf_cursor.specs.Pieces.{same_piece}
+use Rattle.wf_cursor.proofs.piece.same_piece.Goals as goal
 
 pub returns-clause-value : goal.returns-clause-value
 unfolding same_piece

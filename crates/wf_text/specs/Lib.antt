@@ -1,3 +1,5 @@
+pub mod Places
+pub mod ChartFaults
 pub mod Declarations
 pub mod Transitions
 pub mod States

@@ -1,10 +1,13 @@
 //! Reads the text of a chart.
 #![tactic(auto)]
 
+mod actions;
+mod chart_fault;
 mod declarations;
+mod place;
 mod states;
 mod text;
 mod transitions;
 
-pub use text::read_plain;
-pub use wf_cursor::TextFault;
+pub use chart_fault::ChartFault;
+pub use text::read_chart;

@@ -4,9 +4,9 @@ use lib.Chars.{codes}
 use Rattle.wf_model.specs.declared.chart.Kind.TheVariants.{Or}
 use Rattle.wf_model.specs.Names.{is_reserved}
 use Rattle.wf_lex.specs.Lex.{tokens_of, token_at}
-use Rattle.wf_text.specs.declared.fault.TextFault.TheVariants.{BadByte, Syntax, UnknownName, DoubleName}
-use Rattle.wf_text.specs.Pieces.{same_piece, other_word, moving_word, state_word, word_piece, sign_piece, piece_of}
-use Rattle.wf_text.specs.Input as input
+use Rattle.wf_cursor.specs.declared.fault.TextFault.TheVariants.{BadByte, Syntax, UnknownName, DoubleName}
+use Rattle.wf_cursor.specs.Pieces.{same_piece, other_word, moving_word, state_word, word_piece, sign_piece, piece_of}
+use Rattle.wf_cursor.specs.Input as input
 use Rattle.wf_text.specs.Declarations as decl
 use Rattle.wf_text.specs.States as states
 use Rattle.wf_text.specs.Transitions as trans

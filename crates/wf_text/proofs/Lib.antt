@@ -1,3 +1,2 @@
-pub mod Known
 pub mod Turns
 pub mod Examples

@@ -1,7 +1,5 @@
-pub mod Fault
-pub mod Pieces
-pub mod Names
-pub mod Input
+pub mod Places
+pub mod ChartFaults
 pub mod Declarations
 pub mod Transitions
 pub mod States

@@ -4,10 +4,10 @@ use Rattle.wf_model.specs.declared.limits.TheConstants.{MAX_OPEN}
 use Rattle.wf_model.specs.declared.ids.StateId.{StateId}
 use Rattle.wf_model.specs.declared.chart.Kind.{Kind}
 use Rattle.wf_model.specs.declared.chart.Kind.TheVariants as kinds
-use Rattle.wf_text.specs.declared.names.Declared.TheVariants as declared_as_a
-use Rattle.wf_text.specs.declared.piece.Piece.{Piece}
-use Rattle.wf_text.specs.declared.piece.Piece.TheVariants as pieces
-use Rattle.wf_text.specs.Input.{Parser, ◌>>=◌, ◌>>◌, pure, peek, take, syntax, oversize, here, changed, piece, eat, expect, new_name, unit, next_state, with_state}
+use Rattle.wf_cursor.specs.declared.names.Declared.TheVariants as declared_as_a
+use Rattle.wf_cursor.specs.declared.piece.Piece.{Piece}
+use Rattle.wf_cursor.specs.declared.piece.Piece.TheVariants as pieces
+use Rattle.wf_cursor.specs.Input.{Parser, ◌>>=◌, ◌>>◌, pure, peek, take, syntax, oversize, here, changed, piece, eat, expect, new_name, unit, next_state, with_state}
 
 -- the kind that the word begins a state of
 abbrev pub kind_of : Option Piece → Option Kind
@@ -39,7 +39,7 @@ placed parent = do
 unfoldable pub children_from : Parser (Unit {0}) → ℕ → Parser (Unit {0})
 children_from child zero = syntax
 children_from child (suc n) = do
-  closed ← eat pieces.Close
+  closed ← eat pieces.CloseBrace
   if closed then pure tt else child >> children_from child n
 
 unfoldable pub children : Parser (Unit {0}) → Parser (Unit {0})
@@ -47,7 +47,7 @@ children child = λ i. children_from child (length i.left) i
 
 abbrev pub body_by : Parser (Unit {0}) → Option Piece → Parser (Unit {0})
 body_by nested (Some pieces.Semicolon) = take
-body_by nested (Some pieces.Open) = nested
+body_by nested (Some pieces.OpenBrace) = nested
 body_by nested _ = syntax
 
 -- ( basic | or | and ) NAME at UNIT ( ; | "{" .. ), where the parameter reads from the brace on

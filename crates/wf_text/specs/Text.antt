@@ -5,11 +5,12 @@ use Rattle.wf_model.specs.declared.chart.Transition.{Transition}
 use Rattle.wf_lex.specs.declared.token.Token.{Token}
 use Rattle.wf_lex.specs.declared.token.LexFault.{LexFault}
 use Rattle.wf_lex.specs.Lex.{tokens_of}
-use Rattle.wf_text.specs.declared.fault.TextFault.{TextFault}
-use Rattle.wf_text.specs.declared.fault.TextFault.TheVariants.{NoMemory}
-use Rattle.wf_text.specs.declared.piece.Piece.TheVariants as pieces
-use Rattle.wf_text.specs.Fault.{fault_of}
-use Rattle.wf_text.specs.Input.{Input, Outcome, Parser, ◌>>=◌, ◌>>◌, pure, syntax, start_of, expect, name}
+use Rattle.wf_cursor.specs.declared.piece.Piece.TheVariants as pieces
+use Rattle.wf_cursor.specs.Fault.{fault_of}
+use Rattle.wf_cursor.specs.Input.{Input, Outcome, Parser, ◌>>=◌, ◌>>◌, pure, syntax, start_of, expect, name, chart_with}
+use Rattle.wf_cursor.specs.declared.fault.TextFault.{TextFault}
+use Rattle.wf_text.specs.declared.chart_fault.ChartFault.{ChartFault}
+use Rattle.wf_text.specs.ChartFaults.{chart_fault}
 use Rattle.wf_text.specs.Declarations.{declarations}
 use Rattle.wf_text.specs.States.{root}
 use Rattle.wf_text.specs.Transitions.{transitions}
@@ -31,26 +32,28 @@ contents = do
   pure (chart_name, found)
 
 -- the chart of all that was read
-unfoldable pub chart_with : List ℕ → List Transition → Input → Chart
-chart_with chart_name found i = record { name = chart_name; units = i.units; events = i.events; vars = []; acts = []; states = i.states; transitions = found }
+abbrev pub whole : Outcome (List ℕ × List Transition) → Result Chart TextFault
+whole (Ok p) = Ok (chart_with p.0.0 p.0.1 p.1)
+whole (Err e) = Err e
 
-abbrev pub chart_by : Outcome (List ℕ × List Transition) → Result Chart TextFault
-chart_by (Ok p) = Ok (chart_with p.0.0 p.0.1 p.1)
-chart_by (Err e) = Err e
+-- with the place of a fault in the text of these tokens
+abbrev pub with_place : List ℕ → List Token → Result Chart TextFault → Result Chart ChartFault
+with_place text tokens (Ok chart) = Ok chart
+with_place text tokens (Err e) = Err (chart_fault text tokens e)
 
-abbrev pub chart_from : List ℕ → Result (List Token) LexFault → Result Chart TextFault
-chart_from text (Ok tokens) = chart_by (contents (start_of text tokens))
-chart_from text (Err e) = Err (fault_of e)
+abbrev pub chart_from : List ℕ → Result (List Token) LexFault → Result Chart ChartFault
+chart_from text (Ok tokens) = with_place text tokens (whole (contents (start_of text tokens)))
+chart_from text (Err e) = with_place text [] (Err (fault_of e))
 
 -- the chart that the text means, or the first fault of its tokens, or else of its grammar
-unfoldable pub chart_of : List ℕ → Result Chart TextFault
+unfoldable pub chart_of : List ℕ → Result Chart ChartFault
 chart_of text = chart_from text (tokens_of text)
 
 -- the text means the chart
 abbrev pub Means : List ℕ → Chart → Type 0
 Means text chart = chart_of text ≡ Ok chart
 
--- what a function that reads a chart answers beside what it is to answer: want of memory is free
-abbrev pub Gives : Result Chart TextFault → Result Chart TextFault → Type 0
-Gives (Ok chart) wanted = wanted ≡ Ok chart
-Gives (Err e) wanted = e ≢ NoMemory → wanted ≡ Err e
+-- what a function that reads answers beside what it is to answer: want of memory, which is this fault, is free
+abbrev pub Gives : {A E : Type 0} → E → Result A E → Result A E → Type 0
+Gives no_memory (Ok a) wanted = wanted ≡ Ok a
+Gives no_memory (Err e) wanted = e ≢ no_memory → wanted ≡ Err e

@@ -1,26 +1,89 @@
--- trans = from STATE to STATE [ on EVENT ] ;
+-- trans = from STATE to STATE [ on EVENT ] [ if expr ] [ do action { , action } ] ;
 use Rattle.std.specs.Prelude.{ℕ, zero, suc, if◌then◌else◌, List, [], ◌∷◌, ◌++◌, length, Option, Some, None}
 use Rattle.wf_model.specs.declared.ids.EventId.{EventId}
+use Rattle.wf_model.specs.declared.chart.Action.{Action}
+use Rattle.wf_model.specs.declared.chart.Action.TheVariants as act
 use Rattle.wf_model.specs.declared.chart.Transition.{Transition}
-use Rattle.wf_text.specs.declared.piece.Piece.TheVariants as pieces
-use Rattle.wf_text.specs.Input.{Parser, ◌>>=◌, ◌>>◌, pure, here, sees, eat, expect, event, state}
+use Rattle.wf_model.specs.declared.expr.Expr.{Expr}
+use Rattle.wf_cursor.specs.declared.piece.Piece.{Piece}
+use Rattle.wf_cursor.specs.declared.piece.Piece.TheVariants as pieces
+use Rattle.wf_cursor.specs.Input as input
+use Rattle.wf_cursor.specs.Input.{Parser, ◌>>=◌, ◌>>◌, pure, peek, take, syntax, here, sees, eat, expect}
+use Rattle.wf_phrase.specs.Expressions.{expr}
 
 -- [ on EVENT ]
 unfoldable pub caused : Parser (Option EventId)
 caused = do
   found ← eat pieces.On
-  if found then (do e ← event; pure (Some e)) else pure None
+  if found then (do e ← input.event; pure (Some e)) else pure None
 
--- from STATE to STATE [ on EVENT ] ;
+-- [ if expr ]
+unfoldable pub guarded : Parser (Option Expr)
+guarded = do
+  found ← eat pieces.If
+  if found then (do guard ← expr; pure (Some guard)) else pure None
+
+-- VAR := expr
+unfoldable pub assigned : Parser Action
+assigned = do
+  x ← input.variable
+  expect pieces.Assign
+  value ← expr
+  pure (act.Assign x value)
+
+-- raise EVENT
+unfoldable pub raised : Parser Action
+raised = do
+  take
+  e ← input.event
+  pure (act.Raise e)
+
+-- start ACTIVITY
+unfoldable pub started : Parser Action
+started = do
+  take
+  a ← input.activity
+  pure (act.Start a)
+
+abbrev pub action_by : Option Piece → Parser Action
+action_by (Some pieces.Name) = assigned
+action_by (Some pieces.Raise) = raised
+action_by (Some pieces.Start) = started
+action_by _ = syntax
+
+-- action = VAR := expr | raise EVENT | start ACTIVITY
+unfoldable pub action : Parser Action
+action = peek >>= action_by
+
+-- { , action }: each turn takes a token, so the count of tokens is enough
+unfoldable pub actions_from : ℕ → List Action → Parser (List Action)
+actions_from zero found = pure found
+actions_from (suc n) found = do
+  more ← eat pieces.Comma
+  if more then (do next ← action; actions_from n (found ++ next ∷ [])) else pure found
+
+-- action { , action }
+unfoldable pub actions : Parser (List Action)
+actions = action >>= λ first i. actions_from (length i.left) (first ∷ []) i
+
+-- [ do action { , action } ]
+unfoldable pub effects : Parser (List Action)
+effects = do
+  found ← eat pieces.Do
+  if found then actions else pure []
+
+-- from STATE to STATE [ on EVENT ] [ if expr ] [ do action { , action } ] ;
 unfoldable pub transition : Parser Transition
 transition = do
   expect pieces.From
-  source ← state
+  source ← input.state
   expect pieces.To
-  target ← state
+  target ← input.state
   event ← caused
+  guard ← guarded
+  actions ← effects
   expect pieces.Semicolon
-  pure (record { source = source; target = target; event = event; guard = None; actions = [] })
+  pure (record { source = source; target = target; event = event; guard = guard; actions = actions })
 
 -- { trans }: each turn takes a token, so the count of tokens is enough
 unfoldable pub transitions_from : ℕ → List Transition → Parser (List Transition)

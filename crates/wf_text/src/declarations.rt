@@ -1,14 +1,12 @@
-//! Declarations of units and events.
+//! Declarations.
 ghost use Rattle.std.specs.Prelude.{length};
-ghost use Rattle.wf_text.specs.Input.{Reads};
+ghost use Rattle.wf_cursor.specs.Input.{Reads};
 ghost use Rattle.wf_text.specs.Declarations as spec;
 
-use crate::TextFault;
-use crate::cursor::Cursor;
-use crate::names::Declared;
-use crate::piece::Piece;
 use std::alloc::Global;
-use wf_model::{Event, UnitId};
+use wf_cursor::{Cursor, Declared, Piece, TextFault};
+use wf_model::{Activity, Event, List, UnitId, VarId, Variable};
+use wf_phrase::{literal, sort};
 
 #[tactic(auto, unfolding(crate::specs::Declarations::unit))]
 fn unit(alloc: Global, cursor: &mut Cursor<'_>) -> Result<(), TextFault>
@@ -46,6 +44,69 @@ fn event(alloc: Global, cursor: &mut Cursor<'_>) -> Result<(), TextFault>
     Ok(())
 }
 
+#[tactic(auto, unfolding(crate::specs::Declarations::variable))]
+fn variable(alloc: Global, cursor: &mut Cursor<'_>) -> Result<(), TextFault>
+    ensures { Reads (spec.variable cursor.old) result cursor.new }
+{
+    cursor.expect(Piece::Var)?;
+    let what = Declared::Var(cursor.next_var());
+    let name = cursor.new_name(alloc, what)?;
+    cursor.expect(Piece::Colon)?;
+    let sort = sort(cursor)?;
+    cursor.expect(Piece::Equal)?;
+    let first = literal(cursor)?;
+    cursor.expect(Piece::Semicolon)?;
+    cursor.add_var(Variable { name, sort, first })?;
+    Ok(())
+}
+
+#[tactic(auto, unfolding(crate::specs::Declarations::outputs))]
+fn outputs(alloc: Global, cursor: &mut Cursor<'_>) -> Result<List<VarId>, TextFault>
+    ensures { Reads (spec.outputs cursor.old) result cursor.new }
+{
+    let first = cursor.variable()?;
+    let mut found = List::new(alloc);
+    found.push(first)?;
+    for _turn in 0..cursor.left() {
+        if !cursor.eat(Piece::Comma) {
+            return Ok(found);
+        }
+        let next = cursor.variable()?;
+        found.push(next)?;
+    }
+    Ok(found)
+}
+
+#[tactic(auto, unfolding(crate::specs::Declarations::given))]
+fn given(alloc: Global, cursor: &mut Cursor<'_>) -> Result<List<VarId>, TextFault>
+    ensures { Reads (spec.given cursor.old) result cursor.new }
+{
+    if cursor.eat(Piece::Gives) {
+        outputs(alloc, cursor)
+    } else {
+        Ok(List::new(alloc))
+    }
+}
+
+#[tactic(auto, unfolding(crate::specs::Declarations::activity))]
+fn activity(alloc: Global, cursor: &mut Cursor<'_>) -> Result<(), TextFault>
+    ensures { Reads (spec.activity cursor.old) result cursor.new }
+{
+    cursor.expect(Piece::Activity)?;
+    let what = Declared::Activity(cursor.next_act());
+    let name = cursor.new_name(alloc, what)?;
+    cursor.expect(Piece::At)?;
+    let unit = cursor.unit()?;
+    let outputs = given(alloc, cursor)?;
+    cursor.expect(Piece::Semicolon)?;
+    cursor.add_act(Activity {
+        name,
+        unit,
+        outputs,
+    })?;
+    Ok(())
+}
+
 /// Reads one declaration, and says whether there was one.
 #[tactic(auto, unfolding(crate::specs::Declarations::declaration))]
 fn declaration(alloc: Global, cursor: &mut Cursor<'_>) -> Result<bool, TextFault>
@@ -58,6 +119,14 @@ fn declaration(alloc: Global, cursor: &mut Cursor<'_>) -> Result<bool, TextFault
         }
         Some(Piece::Event) => {
             event(alloc, cursor)?;
+            Ok(true)
+        }
+        Some(Piece::Var) => {
+            variable(alloc, cursor)?;
+            Ok(true)
+        }
+        Some(Piece::Activity) => {
+            activity(alloc, cursor)?;
             Ok(true)
         }
         _ => Ok(false),

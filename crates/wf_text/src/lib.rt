@@ -1,16 +1,13 @@
 //! Reads the text of a chart.
 #![tactic(auto)]
 
-mod cursor;
+mod actions;
+mod chart_fault;
 mod declarations;
-mod fault;
-mod names;
-mod piece;
+mod place;
 mod states;
 mod text;
 mod transitions;
 
-pub use fault::TextFault;
-pub use names::Declared;
-pub use piece::Piece;
-pub use text::read_plain;
+pub use chart_fault::ChartFault;
+pub use text::read_chart;

@@ -1,13 +1,10 @@
 //! States.
 ghost use Rattle.std.specs.Prelude.{◌≡◌, Some, length};
-ghost use Rattle.wf_text.specs.Input.{Reads, piece};
+ghost use Rattle.wf_cursor.specs.Input.{Reads, piece};
 ghost use Rattle.wf_text.specs.States as spec;
 
-use crate::TextFault;
-use crate::cursor::Cursor;
-use crate::names::Declared;
-use crate::piece::Piece;
 use std::alloc::Global;
+use wf_cursor::{Cursor, Declared, Piece, TextFault};
 use wf_model::limits::MAX_OPEN;
 use wf_model::{Kind, State, StateId};
 
@@ -75,7 +72,7 @@ fn state(
             cursor.take();
             Ok(())
         }
-        Some(Piece::Open) => opened(alloc, cursor, id, depth),
+        Some(Piece::OpenBrace) => opened(alloc, cursor, id, depth),
         _ => Err(cursor.syntax()),
     }
 }
@@ -108,7 +105,7 @@ fn children(
     ensures { Reads (spec.children (spec.state depth (Some parent)) cursor.old) result cursor.new }
 {
     for _turn in 0..cursor.left() {
-        let closed = cursor.eat(Piece::Close);
+        let closed = cursor.eat(Piece::CloseBrace);
         if closed {
             return Ok(());
         }

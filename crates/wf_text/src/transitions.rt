@@ -1,13 +1,13 @@
 //! Transitions.
 ghost use Rattle.std.specs.Prelude.{length};
-ghost use Rattle.wf_text.specs.Input.{Reads};
+ghost use Rattle.wf_cursor.specs.Input.{Reads};
 ghost use Rattle.wf_text.specs.Transitions as spec;
 
-use crate::TextFault;
-use crate::cursor::Cursor;
-use crate::piece::Piece;
+use crate::actions::effects;
 use std::alloc::Global;
-use wf_model::{EventId, List, Transition};
+use wf_cursor::{Cursor, Piece, TextFault};
+use wf_model::{EventId, Expr, List, Transition};
+use wf_phrase::expr;
 
 #[tactic(auto, unfolding(crate::specs::Transitions::caused))]
 fn caused(cursor: &mut Cursor<'_>) -> Result<Option<EventId>, TextFault>
@@ -15,6 +15,17 @@ fn caused(cursor: &mut Cursor<'_>) -> Result<Option<EventId>, TextFault>
 {
     if cursor.eat(Piece::On) {
         Ok(Some(cursor.event()?))
+    } else {
+        Ok(None)
+    }
+}
+
+#[tactic(auto, unfolding(crate::specs::Transitions::guarded))]
+fn guarded(alloc: Global, cursor: &mut Cursor<'_>) -> Result<Option<Expr>, TextFault>
+    ensures { Reads (spec.guarded cursor.old) result cursor.new }
+{
+    if cursor.eat(Piece::If) {
+        Ok(Some(expr(alloc, cursor)?))
     } else {
         Ok(None)
     }
@@ -29,13 +40,15 @@ fn transition(alloc: Global, cursor: &mut Cursor<'_>) -> Result<Transition, Text
     cursor.expect(Piece::To)?;
     let target = cursor.state()?;
     let event = caused(cursor)?;
+    let guard = guarded(alloc, cursor)?;
+    let actions = effects(alloc, cursor)?;
     cursor.expect(Piece::Semicolon)?;
     Ok(Transition {
         source,
         target,
         event,
-        guard: None,
-        actions: List::new(alloc),
+        guard,
+        actions,
     })
 }
 

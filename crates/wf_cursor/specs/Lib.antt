@@ -1,0 +1,5 @@
+pub mod Fault
+pub mod Pieces
+pub mod Names
+pub mod Values
+pub mod Input

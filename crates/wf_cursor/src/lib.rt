@@ -1,0 +1,14 @@
+//! What every rule of the language reads by: a cursor over the tokens of a text, with the names and the parts that
+//! were declared so far.
+#![tactic(auto)]
+
+mod cursor;
+mod fault;
+mod names;
+mod piece;
+mod value;
+
+pub use cursor::Cursor;
+pub use fault::TextFault;
+pub use names::Declared;
+pub use piece::Piece;

@@ -2,15 +2,14 @@
 use Rattle.std.proofs.Common.{◌≡◌, [], ◌∷◌, None, Ok, Err, refl}
 use lib.Chars.{codes}
 use Rattle.wf_model.specs.declared.chart.Kind.TheVariants.{Or}
-use Rattle.wf_model.specs.Names.{is_reserved}
 use Rattle.wf_lex.specs.Lex.{tokens_of, token_at}
 use Rattle.wf_cursor.specs.declared.fault.TextFault.TheVariants.{BadByte, Syntax, UnknownName, DoubleName}
-use Rattle.wf_cursor.specs.Pieces.{same_piece, other_word, moving_word, state_word, word_piece, sign_piece, piece_of}
+use Rattle.wf_cursor.specs.Pieces.{same_piece, word_piece, state_word, moving_word, value_word, sort_word, sign_piece, comparing_sign, reckoning_sign, piece_of}
 use Rattle.wf_cursor.specs.Input as input
 use Rattle.wf_text.specs.Declarations as decl
 use Rattle.wf_text.specs.States as states
 use Rattle.wf_text.specs.Transitions as trans
-use Rattle.wf_text.specs.Text.{chart_of, contents, chart_with}
+use Rattle.wf_text.specs.Text.{chart_of, contents}
 
 -- a comment, a chart's own name, and nothing else
 pub bad_byte : chart_of (codes "chart $;") ≡ Err (BadByte 6)
@@ -26,19 +25,19 @@ pub chart_named_fault : chart_of (codes "chart fault; # no more") ≡ Ok (record
   states = [];
   transitions = [];
 })
-unfolding chart_of tokens_of token_at contents chart_with same_piece other_word moving_word state_word word_piece sign_piece piece_of is_reserved input.start_of input.ahead input.spelling input.piece input.next input.sees input.expect input.name_ahead input.name decl.declaration decl.declarations_from decl.declarations states.root trans.transitions_from trans.transitions
+unfolding chart_of tokens_of token_at contents input.chart_with same_piece word_piece state_word moving_word value_word sort_word sign_piece comparing_sign reckoning_sign piece_of input.start_of input.ahead input.spelling input.piece input.next input.sees input.expect input.name_ahead input.name decl.declaration decl.declarations_from decl.declarations states.root trans.transitions_from trans.transitions
 chart_named_fault = refl
 
 pub unit_named_fault : chart_of (codes "chart c; unit fault;") ≡ Err (DoubleName 4)
-unfolding chart_of tokens_of token_at contents chart_with same_piece other_word moving_word state_word word_piece sign_piece piece_of is_reserved input.start_of input.ahead input.spelling input.piece input.next input.sees input.expect input.name_ahead input.name input.declared input.new_name decl.unit decl.declaration decl.declarations_from decl.declarations states.root trans.transitions_from trans.transitions
+unfolding chart_of tokens_of token_at contents input.chart_with same_piece word_piece state_word moving_word value_word sort_word sign_piece comparing_sign reckoning_sign piece_of input.start_of input.ahead input.spelling input.piece input.next input.sees input.expect input.name_ahead input.name input.declared input.new_name decl.unit decl.declaration decl.declarations_from decl.declarations states.root trans.transitions_from trans.transitions
 unit_named_fault = refl
 
 pub missing_unit : chart_of (codes "chart c; or R at a;") ≡ Err (UnknownName 6)
-unfolding chart_of tokens_of token_at contents chart_with same_piece other_word moving_word state_word word_piece sign_piece piece_of is_reserved input.start_of input.ahead input.spelling input.piece input.next input.sees input.eat input.expect input.name_ahead input.name input.declared input.new_name input.with_name input.unit input.next_state decl.declaration decl.declarations_from decl.declarations states.root states.kind states.placed states.state_with states.opened trans.transitions_from trans.transitions
+unfolding chart_of tokens_of token_at contents input.chart_with same_piece word_piece state_word moving_word value_word sort_word sign_piece comparing_sign reckoning_sign piece_of input.start_of input.ahead input.spelling input.piece input.next input.sees input.eat input.expect input.name_ahead input.name input.declared input.new_name input.with_name input.unit input.next_state decl.declaration decl.declarations_from decl.declarations states.root states.kind states.placed states.state_with states.opened trans.transitions_from trans.transitions
 missing_unit = refl
 
 pub cut_off : chart_of (codes "chart c; unit a; or R at a {") ≡ Err (Syntax 11)
-unfolding chart_of tokens_of token_at contents chart_with same_piece other_word moving_word state_word word_piece sign_piece piece_of is_reserved input.start_of input.ahead input.spelling input.piece input.next input.sees input.eat input.expect input.name_ahead input.name input.declared input.new_name input.with_name input.unit input.next_unit input.with_unit input.next_state input.with_state decl.unit decl.declaration decl.declarations_from decl.declarations states.root states.kind states.placed states.state_with states.opened states.children states.children_from trans.transitions_from trans.transitions
+unfolding chart_of tokens_of token_at contents input.chart_with same_piece word_piece state_word moving_word value_word sort_word sign_piece comparing_sign reckoning_sign piece_of input.start_of input.ahead input.spelling input.piece input.next input.sees input.eat input.expect input.name_ahead input.name input.declared input.new_name input.with_name input.unit input.next_unit input.with_unit input.next_state input.with_state decl.unit decl.declaration decl.declarations_from decl.declarations states.root states.kind states.placed states.state_with states.opened states.children states.children_from trans.transitions_from trans.transitions
 cut_off = refl
 
 pub one_state : chart_of (codes "chart c; unit a; or R at a { }") ≡ Ok (record {
@@ -50,5 +49,5 @@ pub one_state : chart_of (codes "chart c; unit a; or R at a { }") ≡ Ok (record
   states = record { name = codes "R"; kind = Or; parent = None; unit = record { 0 = 0 } } ∷ [];
   transitions = [];
 })
-unfolding chart_of tokens_of token_at contents chart_with same_piece other_word moving_word state_word word_piece sign_piece piece_of is_reserved input.start_of input.ahead input.spelling input.piece input.next input.sees input.eat input.expect input.name_ahead input.name input.declared input.new_name input.with_name input.unit input.next_unit input.with_unit input.next_state input.with_state decl.unit decl.declaration decl.declarations_from decl.declarations states.root states.kind states.placed states.state_with states.opened states.children states.children_from trans.transitions_from trans.transitions
+unfolding chart_of tokens_of token_at contents input.chart_with same_piece word_piece state_word moving_word value_word sort_word sign_piece comparing_sign reckoning_sign piece_of input.start_of input.ahead input.spelling input.piece input.next input.sees input.eat input.expect input.name_ahead input.name input.declared input.new_name input.with_name input.unit input.next_unit input.with_unit input.next_state input.with_state decl.unit decl.declaration decl.declarations_from decl.declarations states.root states.kind states.placed states.state_with states.opened states.children states.children_from trans.transitions_from trans.transitions
 one_state = refl

@@ -1,0 +1,7 @@
+use Rattle.std.proofs.Common.{◌≡◌, ◌-◌}
+use Rattle.wf_phrase.specs.Operators.{product_operator}
+use Rattle.wf_phrase.specs.Expressions.{chain_from, rest_of, unary, parens}
+use Rattle.wf_phrase.proofs.rules.Rules.prod_rest.Given as goal
+
+abbrev pub invariant-loop-turn : goal.invariant-loop-turn
+invariant-loop-turn g l = rest_of product_operator (unary l.self.depth (parens l.self.depth)) l.fn.left l.fn.cursor ≡ chain_from product_operator (unary l.self.depth (parens l.self.depth)) (l._turn-end - l._turn) l.left l.cursor

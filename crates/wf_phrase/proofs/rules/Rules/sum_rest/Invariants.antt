@@ -1,0 +1,7 @@
+use Rattle.std.proofs.Common.{◌≡◌, ◌-◌}
+use Rattle.wf_phrase.specs.Operators.{sum_operator}
+use Rattle.wf_phrase.specs.Expressions.{chain_from, rest_of, prod, parens}
+use Rattle.wf_phrase.proofs.rules.Rules.sum_rest.Given as goal
+
+abbrev pub invariant-loop-turn : goal.invariant-loop-turn
+invariant-loop-turn g l = rest_of sum_operator (prod l.self.depth (parens l.self.depth)) l.fn.left l.fn.cursor ≡ chain_from sum_operator (prod l.self.depth (parens l.self.depth)) (l._turn-end - l._turn) l.left l.cursor

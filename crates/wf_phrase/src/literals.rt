@@ -1,0 +1,86 @@
+//! Literals, and the words of sorts.
+ghost use Rattle.std.specs.Prelude.{◌≡◌, ◌≤◌, ◌^◌, pos, neg_ℤ};
+ghost use Rattle.wf_cursor.specs.Input.{Reads};
+ghost use Rattle.wf_phrase.specs.Literals as spec;
+
+use wf_cursor::{Cursor, Piece, TextFault};
+use wf_model::{Sort, Val};
+
+// The number below zero.
+fn below_zero(number: u64) -> i64
+    requires { number ≤ 2 ^ 63 }
+    ensures { result ≡ neg_ℤ (pos number) }
+{
+    (0 - number as i128) as i64
+}
+
+#[tactic(auto, unfolding(crate::specs::Literals::number))]
+fn number(cursor: &mut Cursor<'_>) -> Result<Val, TextFault>
+    ensures { Reads (spec.number cursor.old) result cursor.new }
+{
+    let number = cursor.int()?;
+    Ok(Val::Int(number as i64))
+}
+
+#[tactic(auto, unfolding(crate::specs::Literals::negated))]
+fn negated(cursor: &mut Cursor<'_>) -> Result<Val, TextFault>
+    ensures { Reads (spec.negated cursor.old) result cursor.new }
+{
+    cursor.take();
+    let number = cursor.negated_int()?;
+    Ok(Val::Int(below_zero(number)))
+}
+
+#[tactic(auto, unfolding(crate::specs::Literals::characters))]
+fn characters(cursor: &mut Cursor<'_>) -> Result<Val, TextFault>
+    ensures { Reads (spec.characters cursor.old) result cursor.new }
+{
+    Ok(Val::Text(cursor.text()?))
+}
+
+/// Reads a literal: `true`, `false`, an Int, `-` and an Int, or a Text. An Int is at most 9223372036854775807, and
+/// behind `-` at most 9223372036854775808; a greater one is `Oversize`, and so is a Text of over 64 characters.
+#[tactic(auto, unfolding(crate::specs::Literals::literal))]
+pub fn literal(cursor: &mut Cursor<'_>) -> Result<Val, TextFault>
+    ensures { Reads (spec.literal cursor.old) result cursor.new }
+{
+    match cursor.peek() {
+        Some(Piece::True) => {
+            cursor.take();
+            Ok(Val::Bool(true))
+        }
+        Some(Piece::False) => {
+            cursor.take();
+            Ok(Val::Bool(false))
+        }
+        Some(Piece::Int) => number(cursor),
+        Some(Piece::Minus) => negated(cursor),
+        Some(Piece::Text) => characters(cursor),
+        _ => Err(cursor.syntax()),
+    }
+}
+
+fn sort_named(piece: Option<Piece>) -> Option<Sort>
+    ensures { result ≡ spec.sort_named piece }
+{
+    match piece {
+        Some(Piece::BoolSort) => Some(Sort::Bool),
+        Some(Piece::IntSort) => Some(Sort::Int),
+        Some(Piece::TextSort) => Some(Sort::Text),
+        _ => None,
+    }
+}
+
+/// Reads the word of a sort: `bool`, `int` or `text`. Any other token is `Syntax`.
+#[tactic(auto, unfolding(crate::specs::Literals::sort))]
+pub fn sort(cursor: &mut Cursor<'_>) -> Result<Sort, TextFault>
+    ensures { Reads (spec.sort cursor.old) result cursor.new }
+{
+    match sort_named(cursor.peek()) {
+        Some(sort) => {
+            cursor.take();
+            Ok(sort)
+        }
+        None => Err(cursor.syntax()),
+    }
+}

@@ -1,3 +1,7 @@
-pub mod Plains
 pub mod Walks
 pub mod Novel
+pub mod Found
+pub mod GoodNames
+pub mod Parts
+pub mod Preorder
+pub mod Faultless

@@ -9,13 +9,13 @@ use Rattle.std.proofs.lemmas.List.{take_more, length-map, get_or-map, map-append
 use Rattle.std.proofs.lemmas.List.Folds.{list_any-append, list_all-map}
 use Rattle.std.proofs.lemmas.List.Sorted.{list_any-IsPermutation}
 use Rattle.wf_model.specs.Accepted.{is_new}
-use Rattle.wf_check.specs.Checks.{texts}
+use Rattle.wf_check.specs.Naming.{texts}
 
 -- the names from the i-th on are new
 abbrev pub news_from : List (List ℕ) → ℕ → Bool
 news_from names i = list_all (λ p. is_new names p.0 p.1) (enumerate_from i (drop i names))
 
-news_step : (names : List (List ℕ)) (i : ℕ) (d : List ℕ) → i < length names → news_from names i ≡ (is_new names i (get_or names i d) && news_from names (i + 1))
+pub news_step : (names : List (List ℕ)) (i : ℕ) (d : List ℕ) → i < length names → news_from names i ≡ (is_new names i (get_or names i d) && news_from names (i + 1))
 news_step names i d h =
     ap (λ (rest : List (List ℕ)). list_all (λ p. is_new names p.0 p.1) (enumerate_from i rest)) (drop-cons names i d h)
     ∙ ap (λ (k : ℕ). is_new names i (get_or names i d) && list_all (λ p. is_new names p.0 p.1) (enumerate_from (i + 1) (drop k names))) (sym (add-one i))
@@ -24,10 +24,10 @@ news_step names i d h =
 abbrev pub HasBefore : List (List ℕ) → ℕ → List (Bor (List ℕ)) → Type 0
 HasBefore names i keys = (q : List ℕ) → list_any (λ key. bytes_eq q key.now) keys ≡ list_any (bytes_eq q) (take i names)
 
-name_at : (refs : List (Bor (List ℕ))) (i : ℕ) (d : Bor (List ℕ)) → i < length refs → get_or (texts refs) i d.now ≡ (get_or refs i d).now
+pub name_at : (refs : List (Bor (List ℕ))) (i : ℕ) (d : Bor (List ℕ)) → i < length refs → get_or (texts refs) i d.now ≡ (get_or refs i d).now
 name_at refs i d h = get_or-map (λ (name : Bor (List ℕ)). name.now) refs i d d.now h
 
-inside : (refs : List (Bor (List ℕ))) (i : ℕ) → i < length refs → i < length (texts refs)
+pub inside : (refs : List (Bor (List ℕ))) (i : ℕ) → i < length refs → i < length (texts refs)
 inside refs i h = omega (arith, length-map refs (λ (name : Bor (List ℕ)). name.now))
 
 news_at : (refs keys : List (Bor (List ℕ))) (i : ℕ) (d : Bor (List ℕ)) (added : Bool) → i < length refs → HasBefore (texts refs) i keys → added ≡ not (list_any (λ key. bytes_eq (get_or refs i d).now key.now) keys)

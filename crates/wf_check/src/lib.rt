@@ -1,17 +1,24 @@
-//! The checker of plain charts: whether a chart is plain and accepted.
+//! The checker: whether a chart is accepted, and else the first rule that it breaks.
 #![tactic(auto)]
 
-mod check;
+mod checker;
 mod distinct;
+mod fault;
+mod known;
+mod laws;
+mod moves;
 mod names;
 mod numbers;
 mod plain;
 mod shape;
 mod sizes;
+mod sorts;
 #[cfg(test)]
 mod tests;
 mod tree;
 
-pub use check::check_plain;
+pub use checker::{check, check_plain};
 pub use distinct::are_distinct;
+pub use fault::{CheckFault, TypePlace, What};
+pub use laws::{accepted_has_no_fault, faultless_is_accepted};
 pub use plain::is_plain;

@@ -1,31 +1,74 @@
 //! Whether the names in a chart are names, and none but the chart's stands twice.
-ghost use Rattle.std.specs.Prelude.{◌≡◌, ◌++◌, IfOk, OnOk, map};
-ghost use Rattle.std.specs.List.{list_all};
-ghost use Rattle.wf_check.specs.Checks.{texts};
-ghost use Rattle.wf_model.specs.Names as words;
+ghost use Rattle.std.specs.Prelude.{◌≡◌, ◌<◌, ◌^◌, ◌++◌, IfOk, OnOk, length, map};
+ghost use Rattle.wf_check.specs.Limited.{AreFew};
+ghost use Rattle.wf_check.specs.Naming as naming;
+ghost use Rattle.wf_check.specs.Naming.{texts};
 ghost use Rattle.wf_model.specs.Accepted as spec;
 
-use crate::distinct::are_distinct;
+use crate::distinct::bad_name;
+use crate::{CheckFault, What};
 use std::alloc::Global;
 use wf_model::{Activity, Chart, Event, Name, NoMemory, State, Variable, is_name};
 
-/// Whether each name is one, and none but the chart's stands twice. Linear in the names' bytes on average.
-#[tactic(auto, using(crate::proofs::Novel::all_texts), unfolding(wf_model::specs::Accepted::is_named))]
-pub fn is_named(alloc: Global, chart: &Chart) -> Result<bool, NoMemory>
-    ensures { IfOk result (λ named. named ≡ spec.is_named chart.now) }
+/// The first name that isn't one, or was used before. The chart's name is looked at first, and doesn't count as used.
+/// Linear in the names' bytes on average.
+#[tactic(auto, using(crate::proofs::Found::name_fits), unfolding(crate::specs::Naming::name_fault))]
+pub fn name_fault(alloc: Global, chart: &Chart) -> Result<Option<CheckFault>, NoMemory>
+    requires { AreFew chart.now }
+    ensures { IfOk result (λ fault. fault ≡ naming.name_fault chart.now) }
 {
-    let names = names_of(alloc, chart)?;
-    Ok(
-        is_name(chart.name.as_bytes())
-            && are_names(names.as_slice())
-            && are_distinct(alloc, names.as_slice())?,
-    )
+    if !is_name(chart.name.as_bytes()) {
+        return Ok(Some(misnamed_at(What::Chart, 0)));
+    }
+    match bad_name_of(alloc, chart)? {
+        Some(n) => Ok(Some(misnamed(chart, n))),
+        None => Ok(None),
+    }
 }
 
-fn are_names(names: &[&[u8]]) -> bool
-    ensures { result ≡ list_all (λ name. words.is_name name.now) names.now }
+/// The number of the first name that isn't good, among all but the chart's.
+fn bad_name_of(alloc: Global, chart: &Chart) -> Result<Option<usize>, NoMemory>
+    ensures { IfOk result (λ bad. bad ≡ naming.bad_name (spec.names_of chart.now)) }
 {
-    names.iter().all(|name| is_name(name))
+    let names = names_of(alloc, chart)?;
+    bad_name(alloc, names.as_slice())
+}
+
+fn misnamed_at(what: What, at: usize) -> CheckFault
+    requires { at < 2 ^ 32 }
+    ensures { result ≡ CheckFault.BadName what at }
+{
+    CheckFault::BadName {
+        what,
+        at: at as u32,
+    }
+}
+
+/// The fault of the n-th of all names but the chart's.
+fn misnamed(chart: &Chart, n: usize) -> CheckFault
+    requires { n < 2 ^ 32 }
+    ensures { result ≡ naming.misnamed chart.now n }
+{
+    let units = chart.units.len();
+    if n < units {
+        return misnamed_at(What::Units, n);
+    }
+    let n = n - units;
+    let events = chart.events.len();
+    if n < events {
+        return misnamed_at(What::Events, n);
+    }
+    let n = n - events;
+    let vars = chart.vars.len();
+    if n < vars {
+        return misnamed_at(What::Vars, n);
+    }
+    let n = n - vars;
+    let acts = chart.acts.len();
+    if n < acts {
+        return misnamed_at(What::Activities, n);
+    }
+    misnamed_at(What::States, n - acts)
 }
 
 /// A part of a chart that has a name.

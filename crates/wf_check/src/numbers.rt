@@ -1,26 +1,48 @@
-//! Whether the numbers in a plain chart are those of its parts.
-ghost use Rattle.std.specs.Prelude.{◌≡◌, ◌&&◌, IsTrue, is_none, length, nat_lt};
+//! Whether the numbers in a chart are those of its parts, and parts stand in their places.
+ghost use Rattle.std.specs.Prelude.{◌≡◌, ◌&&◌, ◌<◌, ◌^◌, is_none, length, nat_lt};
 ghost use Rattle.std.specs.List.{list_all};
 ghost use Rattle.std.specs.Str.{bytes_eq};
 ghost use lib.Chars.{codes};
-ghost use Rattle.wf_check.specs.Checks as checks;
-ghost use Rattle.wf_model.specs.Plain.{is_plain};
+ghost use Rattle.wf_check.specs.Limited.{AreFew};
+ghost use Rattle.wf_check.specs.Numbered as numbered;
 ghost use Rattle.wf_model.specs.Accepted as spec;
 
+use crate::known::bad_transition;
 use crate::tree::{is_above, parent_of};
-use wf_model::{Chart, Event, EventId, State, StateId, Transition, UnitId};
+use crate::{CheckFault, What};
+use wf_model::{Activity, Chart, Event, State, UnitId, VarId};
 
-/// Whether every number is that of a part of the chart. Linear in the events, the transitions, and the states times
-/// their depth.
-#[tactic(auto, using(crate::proofs::Plains::known_acts, crate::proofs::Plains::known_transitions), unfolding(wf_model::specs::Accepted::is_numbered))]
-pub fn is_numbered(chart: &Chart) -> bool
-    requires { IsTrue (is_plain chart.now) }
-    ensures { result ≡ spec.is_numbered chart.now }
+/// The first part, kind by kind, that names a part that isn't there, or stands out of place. Linear in the events, the
+/// activities, the transitions, and the states times their depth.
+#[tactic(auto, using(crate::proofs::Found::event_fits, crate::proofs::Found::activity_fits, crate::proofs::Found::state_fits, crate::proofs::Found::transition_fits), unfolding(crate::specs::Numbered::number_fault))]
+pub fn number_fault(chart: &Chart) -> Option<CheckFault>
+    requires { AreFew chart.now }
+    ensures { result ≡ numbered.number_fault chart.now }
 {
-    chart.events.len() > 0
-        && are_placed_events(chart)
-        && are_placed_states(chart)
-        && are_known_transitions(chart)
+    if chart.events.is_empty() {
+        return Some(bad_id(What::Events, 0));
+    }
+    if let Some(at) = bad_event(chart) {
+        return Some(bad_id(What::Events, at));
+    }
+    if let Some(at) = bad_activity(chart) {
+        return Some(bad_id(What::Activities, at));
+    }
+    if let Some(at) = bad_state(chart) {
+        return Some(bad_id(What::States, at));
+    }
+    let at = bad_transition(chart)?;
+    Some(bad_id(What::Transitions, at))
+}
+
+fn bad_id(what: What, at: usize) -> CheckFault
+    requires { at < 2 ^ 32 }
+    ensures { result ≡ CheckFault.BadId what at }
+{
+    CheckFault::BadId {
+        what,
+        at: at as u32,
+    }
 }
 
 fn is_unit(chart: &Chart, unit: UnitId) -> bool
@@ -29,26 +51,11 @@ fn is_unit(chart: &Chart, unit: UnitId) -> bool
     (unit.0 as usize) < chart.units.len()
 }
 
-fn is_state(chart: &Chart, state: StateId) -> bool
-    ensures { result ≡ nat_lt state.0 (length chart.now.states) }
-{
-    (state.0 as usize) < chart.states.len()
-}
-
 fn is_unit_or_none(chart: &Chart, unit: Option<UnitId>) -> bool
     ensures { result ≡ spec.all_of (spec.is_unit chart.now) unit }
 {
     match unit {
         Some(unit) => is_unit(chart, unit),
-        None => true,
-    }
-}
-
-fn is_event_or_none(chart: &Chart, event: Option<EventId>) -> bool
-    ensures { result ≡ spec.all_of (λ e. nat_lt e.0 (length chart.now.events)) event }
-{
-    match event {
-        Some(event) => (event.0 as usize) < chart.events.len(),
         None => true,
     }
 }
@@ -65,14 +72,41 @@ fn is_placed_event(chart: &Chart, n: usize, event: &Event) -> bool
     (n != 0 || is_fault(event)) && is_unit_or_none(chart, event.unit)
 }
 
-fn are_placed_events(chart: &Chart) -> bool
-    ensures { result ≡ spec.all_numbered (spec.is_placed_event chart.now) chart.now.events }
+fn bad_event(chart: &Chart) -> Option<usize>
+    ensures { result ≡ numbered.bad_event chart.now }
 {
     chart
         .events
         .iter()
         .enumerate()
-        .all(|(n, event)| is_placed_event(chart, n, event))
+        .position(|(n, event)| !is_placed_event(chart, n, event))
+}
+
+fn is_var(chart: &Chart, x: VarId) -> bool
+    ensures { result ≡ nat_lt x.0 (length chart.now.vars) }
+{
+    (x.0 as usize) < chart.vars.len()
+}
+
+fn are_vars(chart: &Chart, outputs: &[VarId]) -> bool
+    ensures { result ≡ list_all (λ x. nat_lt x.0 (length chart.now.vars)) outputs.now }
+{
+    outputs.iter().all(|x| is_var(chart, *x))
+}
+
+fn is_known_activity(chart: &Chart, act: &Activity) -> bool
+    ensures { result ≡ spec.is_known_activity chart.now act.now }
+{
+    is_unit(chart, act.unit) && are_vars(chart, act.outputs.as_slice())
+}
+
+fn bad_activity(chart: &Chart) -> Option<usize>
+    ensures { result ≡ numbered.bad_activity chart.now }
+{
+    chart
+        .acts
+        .iter()
+        .position(|act| !is_known_activity(chart, act))
 }
 
 fn follows(chart: &Chart, s: usize, parent: Option<usize>) -> bool
@@ -90,29 +124,12 @@ fn is_placed_state(chart: &Chart, s: usize, state: &State) -> bool
     follows(chart, s, parent_of(state)) && is_unit(chart, state.unit)
 }
 
-fn are_placed_states(chart: &Chart) -> bool
-    ensures { result ≡ spec.all_numbered (spec.is_placed_state chart.now) chart.now.states }
+fn bad_state(chart: &Chart) -> Option<usize>
+    ensures { result ≡ numbered.bad_state chart.now }
 {
     chart
         .states
         .iter()
         .enumerate()
-        .all(|(s, state)| is_placed_state(chart, s, state))
-}
-
-fn joins_known(chart: &Chart, transition: &Transition) -> bool
-    ensures { result ≡ checks.joins_known chart.now transition.now }
-{
-    is_state(chart, transition.source)
-        && is_state(chart, transition.target)
-        && is_event_or_none(chart, transition.event)
-}
-
-fn are_known_transitions(chart: &Chart) -> bool
-    ensures { result ≡ list_all (checks.joins_known chart.now) chart.now.transitions }
-{
-    chart
-        .transitions
-        .iter()
-        .all(|transition| joins_known(chart, transition))
+        .position(|(s, state)| !is_placed_state(chart, s, state))
 }

@@ -1,27 +1,50 @@
 //! Whether the states of a chart have the shape of a tree of kinds.
-ghost use Rattle.std.specs.Prelude.{◌≡◌};
+ghost use Rattle.std.specs.Prelude.{◌≡◌, ◌+◌, ◌<◌, ◌^◌, None};
+ghost use Rattle.wf_check.specs.Limited.{AreFew};
+ghost use Rattle.wf_check.specs.Numbered.{bad_state};
+ghost use Rattle.wf_check.specs.Rooted as rooted;
 ghost use Rattle.wf_model.specs.Tree as tree;
 ghost use Rattle.wf_model.specs.Accepted as spec;
 
-use crate::tree::{count_ancestors, parent_of};
+use crate::CheckFault;
+use crate::tree::{count_ancestors, parent};
 use wf_model::limits::MAX_DEPTH;
-use wf_model::{Chart, Kind, State};
+use wf_model::{Chart, Kind, StateId};
 
-/// Whether the root is an Or state, no state is too deep, Or and And states have children, and basic states have none.
-/// It grows with the square of the states.
-#[tactic(auto, unfolding(wf_model::specs::Accepted::is_shaped))]
-pub fn is_shaped(chart: &Chart) -> bool
-    ensures { result ≡ spec.is_shaped chart.now }
+/// The first fault of the states' shape: the root is an Or state, no state is too deep, Or and And states have
+/// children, and basic states have none. Linear in the states times their depth.
+#[tactic(auto, using(crate::proofs::Found::deep_fits, crate::proofs::Found::unfit_fits), unfolding(crate::specs::Rooted::shape_fault))]
+pub fn shape_fault(chart: &Chart) -> Option<CheckFault>
+    requires few { AreFew chart.now }
+    requires placed { bad_state chart.now ≡ None }
+    ensures { result ≡ rooted.shape_fault chart.now }
 {
-    has_or_root(chart) && are_shaped_states(chart)
+    if chart.states.is_empty() {
+        return Some(CheckFault::NoRoot);
+    }
+    if !is_or(kind(chart, 0)) {
+        return Some(CheckFault::RootNotOr);
+    }
+    if let Some(s) = deep_state(chart) {
+        return Some(CheckFault::TooDeep { state: state_id(s) });
+    }
+    let s = unfit_state(chart)?;
+    Some(unfit(kind(chart, s), state_id(s)))
 }
 
-fn has_or_root(chart: &Chart) -> bool
-    ensures { result ≡ tree.is_or (tree.kind chart.now 0) }
+fn state_id(s: usize) -> StateId
+    requires { s < 2 ^ 32 }
+    ensures { result ≡ rooted.state_id s }
 {
-    match chart.states.get(0) {
-        Some(root) => is_or(root.kind),
-        None => false,
+    StateId(s as u32)
+}
+
+fn kind(chart: &Chart, s: usize) -> Kind
+    ensures { result ≡ tree.kind chart.now s }
+{
+    match chart.states.get(s) {
+        Some(state) => state.kind,
+        None => Kind::Basic,
     }
 }
 
@@ -34,6 +57,16 @@ fn is_or(kind: Kind) -> bool
     }
 }
 
+fn unfit(kind: Kind, state: StateId) -> CheckFault
+    ensures { result ≡ rooted.unfit kind state }
+{
+    match kind {
+        Kind::Basic => CheckFault::BasicWithChildren { state },
+        Kind::Or => CheckFault::EmptyOr { state },
+        Kind::And => CheckFault::EmptyAnd { state },
+    }
+}
+
 fn suits(kind: Kind, has: bool) -> bool
     ensures { result ≡ spec.suits kind has }
 {
@@ -43,36 +76,46 @@ fn suits(kind: Kind, has: bool) -> bool
     }
 }
 
-fn is_child_of(s: usize, parent: Option<usize>) -> bool
-    ensures { result ≡ tree.is_child_of s parent }
-{
-    match parent {
-        Some(p) => p == s,
-        None => false,
-    }
-}
-
-fn has_child(chart: &Chart, s: usize) -> bool
-    ensures { result ≡ spec.has_child chart.now s }
-{
-    chart
-        .states
-        .iter()
-        .any(|state| is_child_of(s, parent_of(state)))
-}
-
-fn is_shaped_state(chart: &Chart, s: usize, state: &State) -> bool
-    ensures { result ≡ spec.is_shaped_state chart.now s state.now }
-{
-    count_ancestors(chart, s) < MAX_DEPTH && suits(state.kind, has_child(chart, s))
-}
-
-fn are_shaped_states(chart: &Chart) -> bool
-    ensures { result ≡ spec.all_numbered (spec.is_shaped_state chart.now) chart.now.states }
+fn deep_state(chart: &Chart) -> Option<usize>
+    ensures { result ≡ rooted.deep_state chart.now }
 {
     chart
         .states
         .iter()
         .enumerate()
-        .all(|(s, state)| is_shaped_state(chart, s, state))
+        .position(|(s, _)| count_ancestors(chart, s) >= MAX_DEPTH)
+}
+
+/// Whether the state after `s` is a child of `s`. States stand directly before their first child, so this is whether
+/// `s` has a child.
+#[tactic(auto, using(crate::proofs::Preorder::no_child_past))]
+fn leads_to_child(chart: &Chart, s: usize) -> bool
+    requires { AreFew chart.now }
+    ensures { result ≡ tree.is_child_of s (tree.parent chart.now (s + 1)) }
+{
+    match chart.states.get(s) {
+        Some(_) => parent(chart, s + 1) == Some(s),
+        None => false,
+    }
+}
+
+#[tactic(auto, using(crate::proofs::Preorder::has_child_next))]
+fn is_fit(chart: &Chart, s: usize, kind: Kind) -> bool
+    requires few { AreFew chart.now }
+    requires placed { bad_state chart.now ≡ None }
+    ensures { result ≡ spec.suits kind (spec.has_child chart.now s) }
+{
+    suits(kind, leads_to_child(chart, s))
+}
+
+fn unfit_state(chart: &Chart) -> Option<usize>
+    requires few { AreFew chart.now }
+    requires placed { bad_state chart.now ≡ None }
+    ensures { result ≡ rooted.unfit_state chart.now }
+{
+    chart
+        .states
+        .iter()
+        .enumerate()
+        .position(|(s, state)| !is_fit(chart, s, state.kind))
 }

@@ -1,9 +1,10 @@
 //! Charts that are accepted, and charts that aren't.
-use crate::{are_distinct, check_plain, is_plain};
+use crate::{CheckFault, TypePlace, What, are_distinct, check, check_plain, is_plain};
 use std::alloc::Global;
 use std::test::Fail;
 use wf_model::{
-    Chart, Event, EventId, Kind, List, Name, NoMemory, State, StateId, Transition, UnitId,
+    Chart, Event, EventId, Expr, Kind, List, Name, NoMemory, State, StateId, TransId, Transition,
+    UnitId,
 };
 
 /// The state of this name and kind at the unit 0.
@@ -28,8 +29,19 @@ fn event(alloc: Global, name: &[u8]) -> Result<Event, NoMemory> {
     })
 }
 
-/// Within the root, the basic states `here` and `there`, and a transition from the one to the other at the event `go`.
-fn chart(alloc: Global) -> Result<Chart, NoMemory> {
+/// The states and the event of a transition, and its guard.
+fn transition(alloc: Global, source: u32, target: u32, guard: Option<Expr>) -> Transition {
+    Transition {
+        source: StateId(source),
+        target: StateId(target),
+        event: Some(EventId(1)),
+        guard,
+        actions: List::new(alloc),
+    }
+}
+
+/// Within the root, the basic states `here` and `there`, and this transition, which may be on the event `go`.
+fn chart_moving(alloc: Global, moving: Transition) -> Result<Chart, NoMemory> {
     let mut units = List::new(alloc);
     units.push(Name::new(alloc, b"desk")?)?;
     let mut events = List::new(alloc);
@@ -40,13 +52,7 @@ fn chart(alloc: Global) -> Result<Chart, NoMemory> {
     states.push(state(alloc, b"here", Kind::Basic, Some(StateId(0)))?)?;
     states.push(state(alloc, b"there", Kind::Basic, Some(StateId(0)))?)?;
     let mut transitions = List::new(alloc);
-    transitions.push(Transition {
-        source: StateId(1),
-        target: StateId(2),
-        event: Some(EventId(1)),
-        guard: None,
-        actions: List::new(alloc),
-    })?;
+    transitions.push(moving)?;
     Ok(Chart {
         name: Name::new(alloc, b"desk")?,
         units,
@@ -56,6 +62,11 @@ fn chart(alloc: Global) -> Result<Chart, NoMemory> {
         states,
         transitions,
     })
+}
+
+/// That chart, with a transition from `here` to `there`.
+fn chart(alloc: Global) -> Result<Chart, NoMemory> {
+    chart_moving(alloc, transition(alloc, 1, 2, None))
 }
 
 /// The chart with one more state within `there`.
@@ -78,15 +89,53 @@ fn accepts_nested_charts(rt: HostRuntime) -> Result<(), Fail> {
     assert!(rt; is_plain(&flat));
     assert!(rt; check_plain(alloc, flat)?.is_some());
     let nested = chart_with(alloc, b"inside", Kind::Basic)?;
-    assert!(rt; check_plain(alloc, nested)?.is_some());
+    assert!(rt; check(alloc, nested).is_ok());
+    let guarded = chart_moving(alloc, transition(alloc, 1, 2, Some(Expr::Bool(true))))?;
+    assert!(rt; check(alloc, guarded).is_ok());
+    Ok(())
+}
+
+/// The fault of a chart whose transition is this one.
+fn fault_moving(alloc: Global, moving: Transition) -> Result<Option<CheckFault>, NoMemory> {
+    let chart = chart_moving(alloc, moving)?;
+    Ok(check(alloc, chart).err())
+}
+
+#[test]
+fn tells_what_is_wrong_with_a_transition(rt: HostRuntime) -> Result<(), Fail> {
+    let alloc = rt.alloc();
+    let unknown = fault_moving(alloc, transition(alloc, 1, 3, None))?;
+    let at = CheckFault::BadId {
+        what: What::Transitions,
+        at: 0,
+    };
+    assert_eq!(rt; unknown, Some(at));
+    let to_root = fault_moving(alloc, transition(alloc, 1, 0, None))?;
+    assert_eq!(rt; to_root, Some(CheckFault::TargetRoot { t: TransId(0) }));
+    let unlike = fault_moving(alloc, transition(alloc, 1, 2, Some(Expr::Int(1))))?;
+    let place = TypePlace::Guard(TransId(0));
+    assert_eq!(rt; unlike, Some(CheckFault::BadType { place }));
     Ok(())
 }
 
 #[test]
-fn refuses_an_empty_or_state(rt: HostRuntime) -> Result<(), Fail> {
+fn tells_what_is_wrong_with_a_state(rt: HostRuntime) -> Result<(), Fail> {
     let alloc = rt.alloc();
-    let chart = chart_with(alloc, b"inside", Kind::Or)?;
-    assert!(rt; check_plain(alloc, chart)?.is_none());
+    let empty = check(alloc, chart_with(alloc, b"inside", Kind::Or)?).err();
+    assert_eq!(rt; empty, Some(CheckFault::EmptyOr { state: StateId(3) }));
+    let double = check(alloc, chart_with(alloc, b"here", Kind::Or)?).err();
+    let at = CheckFault::BadName {
+        what: What::States,
+        at: 3,
+    };
+    assert_eq!(rt; double, Some(at));
+    let mut reserved = chart(alloc)?;
+    reserved.name = Name::new(alloc, b"or")?;
+    let at = CheckFault::BadName {
+        what: What::Chart,
+        at: 0,
+    };
+    assert_eq!(rt; check(alloc, reserved).err(), Some(at));
     Ok(())
 }
 

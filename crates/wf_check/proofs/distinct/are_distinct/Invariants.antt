@@ -1,6 +1,6 @@
 use Rattle.std.proofs.Common.{◌≡◌}
 use Rattle.wf_model.specs.Accepted.{all_numbered, is_new}
-use Rattle.wf_check.specs.Checks.{texts}
+use Rattle.wf_check.specs.Naming.{texts}
 use Rattle.wf_check.proofs.Novel.{news_from, HasBefore}
 use Rattle.wf_check.proofs.distinct.are_distinct.Given as goal
 

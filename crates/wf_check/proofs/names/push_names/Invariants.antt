@@ -1,5 +1,5 @@
 use Rattle.std.proofs.Common.{◌≡◌, ◌++◌, map, take}
-use Rattle.wf_check.specs.Checks.{texts}
+use Rattle.wf_check.specs.Naming.{texts}
 use Rattle.wf_check.proofs.names.push_names.Given as goal
 
 abbrev pub invariant-loop-part : goal.invariant-loop-part

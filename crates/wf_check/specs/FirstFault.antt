@@ -1,0 +1,28 @@
+-- What the checker answers: the first rule that a chart breaks.
+use Rattle.std.specs.Prelude.{◌≡◌, ◌≢◌, [], ◌∷◌, Option, Some, None, Result, Ok, Err}
+use Rattle.wf_model.specs.declared.chart.Chart.{Chart}
+use Rattle.wf_check.specs.declared.fault.CheckFault.{CheckFault}
+use Rattle.wf_check.specs.declared.fault.CheckFault.TheVariants.{NoMemory}
+use Rattle.wf_check.specs.Firsts.{first_some}
+use Rattle.wf_check.specs.Limited.{size_fault}
+use Rattle.wf_check.specs.Numbered.{number_fault}
+use Rattle.wf_check.specs.Naming.{name_fault}
+use Rattle.wf_check.specs.Rooted.{shape_fault}
+use Rattle.wf_check.specs.Sorted.{sort_fault}
+
+-- limits, numbers, names, shape, and then sorts, outputs and transitions
+unfoldable pub first_fault : Chart → Option CheckFault
+first_fault c = first_some (size_fault c ∷ number_fault c ∷ name_fault c ∷ shape_fault c ∷ sort_fault c ∷ [])
+
+abbrev pub checked_by : Chart → Option CheckFault → Result Chart CheckFault
+checked_by chart None = Ok chart
+checked_by chart (Some fault) = Err fault
+
+-- the chart, or its first fault
+unfoldable pub checked_of : Chart → Result Chart CheckFault
+checked_of chart = checked_by chart (first_fault chart)
+
+-- what a checker answers beside what it is to answer: want of memory is free
+abbrev pub Gives : Result Chart CheckFault → Result Chart CheckFault → Type 0
+Gives (Ok chart) wanted = wanted ≡ Ok chart
+Gives (Err e) wanted = e ≢ NoMemory → wanted ≡ Err e

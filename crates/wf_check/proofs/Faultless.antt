@@ -15,7 +15,6 @@ use Rattle.wf_model.specs.Names.{is_name}
 use Rattle.wf_model.specs.Tree.{kind, is_or, ancestors}
 use Rattle.wf_model.specs.Seen.{val_sort}
 use Rattle.wf_model.specs.Sorts.{alike}
-use Rattle.wf_model.specs.Plain.{is_plain}
 use Rattle.wf_model.specs.Accepted.{IsAccepted, is_accepted, is_small, is_numbered, is_named, is_shaped, is_sorted, all_of, all_numbered, nodes, is_small_action, is_small_transition, names_of, is_new, suits, has_child, spares_root, is_sorted_transition, is_sorted_action, has_sort, is_placed_event, is_known_activity, is_placed_state, is_known_transition, are_outputs}
 use Rattle.wf_check.specs.declared.fault.CheckFault.{CheckFault}
 use Rattle.wf_check.specs.Firsts.{first_from}
@@ -25,7 +24,6 @@ use Rattle.wf_check.specs.Naming.{name_fault, is_good_name}
 use Rattle.wf_check.specs.Rooted.{shape_fault}
 use Rattle.wf_check.specs.Sorted.{sort_fault, transition_fault}
 use Rattle.wf_check.specs.FirstFault.{first_fault}
-use Rattle.wf_check.specs.Checks.{plain_of}
 use Rattle.wf_check.proofs.Parts.{none_of, none-or, none-map, none-unless, none-failing, none-numbered, none-from, all-both, all_same, all-unnumbered}
 
 and_assoc : (a b c : Bool) → (a && (b && c)) ≡ ((a && b) && c)
@@ -260,14 +258,3 @@ module _ (c : Chart) where
 
   pub accepted : IsAccepted c → first_fault c ≡ None
   accepted h = none_of (first_fault c) (none-fault ∙ h)
-
-  pub refused : (e : CheckFault) → first_fault c ≡ Some e → is_accepted c ≡ false
-  refused e h = sym none-fault ∙ ap is_none h
-
-  pub plain_sealed : is_plain c ≡ true → first_fault c ≡ None → plain_of c ≡ Some c
-  unfolding plain_of
-  plain_sealed p e = rw (p, faultless e) refl
-
-  pub plain_faulty : (e : CheckFault) → is_plain c ≡ true → first_fault c ≡ Some e → plain_of c ≡ None
-  unfolding plain_of
-  plain_faulty e p h = rw (p, refused e h) refl

@@ -6,4 +6,3 @@ pub mod Rooted
 pub mod Sorted
 pub mod FirstFault
 pub mod Laws
-pub mod Checks

@@ -1,13 +1,11 @@
 //! The checker: the first rule that a chart breaks, and seals for charts that break none.
 ghost use Rattle.std.specs.Prelude.{◌≡◌, IfOk};
-ghost use Rattle.wf_check.specs.Checks.{plain_of};
 ghost use Rattle.wf_check.specs.FirstFault as spec;
 ghost use Rattle.wf_check.specs.FirstFault.{Gives};
 
 use crate::CheckFault;
 use crate::names::name_fault;
 use crate::numbers::number_fault;
-use crate::plain::is_plain;
 use crate::shape::shape_fault;
 use crate::sizes::size_fault;
 use crate::sorts::sort_fault;
@@ -27,24 +25,9 @@ pub fn check(alloc: Global, chart: Chart) -> Result<Checked, CheckFault>
     }
 }
 
-/// The chart, sealed, if it is plain and accepted. None if it isn't, and `NoMemory` where memory runs out. It grows as
-/// `check` does. A chart that isn't plain, or is over a limit, is refused in a time linear in its transitions.
-#[tactic(auto, using(crate::proofs::Faultless::plain_sealed, crate::proofs::Faultless::plain_faulty), unfolding(crate::specs::Checks::plain_of))]
-pub fn check_plain(alloc: Global, chart: Chart) -> Result<Option<Checked>, NoMemory>
-    ensures { IfOk result (λ checked. checked ≡ plain_of chart) }
-{
-    if !is_plain(&chart) {
-        return Ok(None);
-    }
-    match first_fault(alloc, &chart)? {
-        Some(_) => Ok(None),
-        None => Ok(Some(Checked::seal(chart))),
-    }
-}
-
-/// The first rule that the chart breaks.
+/// The first rule that the chart breaks, if it breaks one. `NoMemory` where memory runs out. It grows as `check` does.
 #[tactic(auto, using(crate::proofs::Faultless::few, crate::proofs::Faultless::placed), unfolding(crate::specs::FirstFault::first_fault))]
-fn first_fault(alloc: Global, chart: &Chart) -> Result<Option<CheckFault>, NoMemory>
+pub fn first_fault(alloc: Global, chart: &Chart) -> Result<Option<CheckFault>, NoMemory>
     ensures { IfOk result (λ fault. fault ≡ spec.first_fault chart.now) }
 {
     if let Some(fault) = size_fault(chart) {

@@ -1,27 +1,14 @@
-//! Whether names differ.
+//! Names that stand twice.
 ghost use Rattle.std.specs.Prelude.{◌≡◌, IfOk};
 ghost use Rattle.wf_check.specs.Naming.{texts};
 ghost use Rattle.wf_check.specs.Naming as naming;
-ghost use Rattle.wf_model.specs.Accepted as spec;
 
 use std::alloc::Global;
 use std::collections::HashSet;
 use wf_model::{NoMemory, is_name};
 
-/// Whether no name stands twice. Linear in the names' bytes on average, by a set of the names so far.
-pub fn are_distinct(alloc: Global, names: &[&[u8]]) -> Result<bool, NoMemory>
-    ensures { IfOk result (λ distinct. distinct ≡ spec.all_numbered (spec.is_new (texts names.now)) (texts names.now)) }
-{
-    let mut seen = HashSet::new(alloc);
-    for name in names {
-        if !seen.insert(*name)? {
-            return Ok(false);
-        }
-    }
-    Ok(true)
-}
-
-/// The first name that isn't one, or stands among those before it. It grows as `are_distinct` does.
+/// The first name that isn't one, or stands among those before it. Linear in the
+/// names' bytes on average, by a set of the names so far.
 pub fn bad_name(alloc: Global, names: &[&[u8]]) -> Result<Option<usize>, NoMemory>
     ensures { IfOk result (λ bad. bad ≡ naming.bad_name (texts names.now)) }
 {

@@ -13,12 +13,9 @@ mod plain;
 mod shape;
 mod sizes;
 mod sorts;
-#[cfg(test)]
-mod tests;
 mod tree;
 
-pub use checker::{check, check_plain};
-pub use distinct::are_distinct;
+pub use checker::{check, first_fault};
 pub use fault::{CheckFault, TypePlace, What};
 pub use laws::{accepted_has_no_fault, faultless_is_accepted};
 pub use plain::is_plain;

@@ -7,19 +7,20 @@ use std::alloc::Global;
 use std::test::Fail;
 use wf_audit::{CentralLine, ScriptFault, read_central};
 use wf_central::CentralState;
-use wf_check::check_plain;
+use wf_check::{check, is_plain};
 use wf_model::{Checked, Entry, EventId, Kind, List, Outer, OuterFault, StateId, TransId, UnitId};
 use wf_scopes::{Scopes, kind_of, parent_at};
-use wf_text::read_plain;
+use wf_text::read_chart;
 
-/// The chart of a text.
+/// The plain chart of a text.
 fn checked(alloc: Global, text: &str) -> Result<Checked, Fail>
     ensures { IfOk result (λ chart. IsTrue (is_plain chart)) }
 {
-    let chart = read_plain(alloc, text.as_bytes())?;
-    match check_plain(alloc, chart)? {
-        Some(checked) => Ok(checked),
-        None => Err(Fail::from("refused")),
+    let checked = check(alloc, read_chart(alloc, text.as_bytes())?)?;
+    if is_plain(checked.chart()) {
+        Ok(checked)
+    } else {
+        Err(Fail::from("a chart that isn't plain"))
     }
 }
 

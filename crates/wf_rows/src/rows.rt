@@ -50,13 +50,66 @@ fn central(rt: HostRuntime) -> Result<(), Fail> {
 }
 
 #[test]
+fn check(rt: HostRuntime) -> Result<(), Fail> {
+    let rows = [
+        (
+            SINGLE,
+            Status::Ok,
+            "accepted m units 1 events 1 vars 0 activities 0 states 2 transitions 0\n",
+        ),
+        (
+            SIDES,
+            Status::Ok,
+            "accepted reg units 1 events 3 vars 0 activities 0 states 8 transitions 2\n",
+        ),
+        (
+            "",
+            Status::ChartRefused,
+            "refused chart line 1 column 1 syntax\n",
+        ),
+        (
+            "chart c; unit a; or R at a { basic S at a; }\nfrom S to R;",
+            Status::ChartRefused,
+            "refused check t0 enters the root\n",
+        ),
+        (
+            "chart c; unit a; or R at a { basic S at a; }\n from S to Q;",
+            Status::ChartRefused,
+            "refused chart line 2 column 12 unknown name\n",
+        ),
+    ];
+    for (chart, status, text) in rows {
+        let input = input_of(rt.alloc(), chart, "---\n?")?;
+        let ends = Ends {
+            piece: 4096,
+            failing_reads: &[],
+            failing_writes: &[],
+        };
+        let outcome = run(rt.alloc(), "check", input, ends)?;
+        assert_eq!(rt; outcome.status, status, "at {chart}");
+        assert_eq!(rt; outcome.text.as_slice(), text.as_bytes(), "at {chart}");
+    }
+    Ok(())
+}
+
+#[test]
 fn refused(rt: HostRuntime) -> Result<(), Fail> {
     let rows = [
         ("", 0, Status::Words, "refused words\n"),
         ("play", 0, Status::Words, "refused words\n"),
         ("central central", 0, Status::Words, "refused words\n"),
-        ("central", 0, Status::Unbuilt, "refused unbuilt\n"),
-        ("central", MAX_INPUT, Status::Unbuilt, "refused unbuilt\n"),
+        (
+            "central",
+            0,
+            Status::ChartRefused,
+            "refused chart line 1 column 1 syntax\n",
+        ),
+        (
+            "check",
+            MAX_INPUT,
+            Status::ChartRefused,
+            "refused chart line 1 column 4194305 syntax\n",
+        ),
         (
             "central",
             MAX_INPUT + 1,

@@ -7,14 +7,10 @@ use Rattle.wf_lex.specs.declared.token.LexFault.{LexFault}
 use Rattle.wf_lex.specs.Lex.{tokens_of}
 use Rattle.wf_cursor.specs.declared.piece.Piece.TheVariants as pieces
 use Rattle.wf_cursor.specs.Fault.{fault_of}
-<<<<<<< HEAD
-use Rattle.wf_cursor.specs.Input.{Input, Outcome, Parser, ◌>>=◌, ◌>>◌, pure, syntax, start_of, expect, name, chart_with}
+use Rattle.wf_cursor.specs.Input.{Outcome, Parser, ◌>>=◌, ◌>>◌, pure, syntax, start_of, expect, name, chart_with}
 use Rattle.wf_cursor.specs.declared.fault.TextFault.{TextFault}
 use Rattle.wf_text.specs.declared.chart_fault.ChartFault.{ChartFault}
 use Rattle.wf_text.specs.ChartFaults.{chart_fault}
-=======
-use Rattle.wf_cursor.specs.Input.{Outcome, Parser, ◌>>=◌, ◌>>◌, pure, syntax, start_of, expect, name, chart_with}
->>>>>>> dd810bc711e3e15dfe9b3f09d5f78865dd4cb98a
 use Rattle.wf_text.specs.Declarations.{declarations}
 use Rattle.wf_text.specs.States.{root}
 use Rattle.wf_text.specs.Transitions.{transitions}

@@ -6,7 +6,7 @@ ghost use Rattle.wf_refusals.specs.TextFaults.{text_fault_line};
 ghost use Rattle.wf_top.specs.Answers as spec;
 
 use std::alloc::Global;
-use wf_check::find_fault;
+use wf_check::first_fault;
 use wf_model::{Bytes, Chart, Checked, List, NoMemory};
 use wf_refusals::{append_check_fault, append_text_fault};
 use wf_text::{ChartFault, read_chart};
@@ -21,10 +21,11 @@ fn text_line(alloc: Global, fault: ChartFault) -> Result<Bytes, NoMemory>
 }
 
 // The chart, sealed, or the line of its first fault.
+#[tactic(auto, using(wf_check::proofs::Faultless::faultless))]
 fn checked(alloc: Global, chart: Chart) -> Result<Result<Checked, Bytes>, NoMemory>
     ensures { IfOk result (λ found. found ≡ spec.chart_by chart (first_fault chart)) }
 {
-    match find_fault(alloc, &chart)? {
+    match first_fault(alloc, &chart)? {
         None => Ok(Ok(Checked::seal(chart))),
         Some(fault) => {
             let mut line = List::new(alloc);

@@ -119,7 +119,8 @@ fn declared_and_nested(rt: HostRuntime) -> Result<(), Fail> {
     let alloc = rt.alloc();
     let chart = large(alloc)?;
     let text = text_of(alloc, &chart)?;
-    let wanted = b"chart m;\nunit a;\nevent e at a;\nevent i;\nvar b : bool = false;\nvar n : int = - 5;\nvar w : text = \"h\";\nactivity job at a gives n, b;\nactivity rest at a;\nor R at a {\n  and A at a {\n    or B at a {\n      basic B1 at a;\n      basic B2 at a;\n    }\n    basic C at a;\n  }\n  basic D at a;\n}\n";
+    let wanted =
+        b"chart m;\nunit a;\nevent e at a;\nevent i;\nvar b : bool = false;\nvar n : int = - 5;\nvar w : text = \"h\";\nactivity job at a gives n, b;\nactivity rest at a;\nor R at a {\n  and A at a {\n    or B at a {\n      basic B1 at a;\n      basic B2 at a;\n    }\n    basic C at a;\n  }\n  basic D at a;\n}\n";
     assert!(rt; text.as_slice() == wanted.as_slice());
     Ok(())
 }
@@ -153,12 +154,7 @@ fn all_operators(alloc: Global) -> Result<Expr, NoMemory> {
 }
 
 fn all_actions(alloc: Global) -> Result<List<Action>, NoMemory> {
-    let asked = both(
-        alloc,
-        Op::And,
-        Expr::In(StateId(3)),
-        Expr::Done(ActId(0)),
-    )?;
+    let asked = both(alloc, Op::And, Expr::In(StateId(3)), Expr::Done(ActId(0)))?;
     let mut actions = List::new(alloc);
     actions.push(Action::Assign(VarId(0), asked))?;
     actions.push(Action::Raise(EventId(2)))?;
@@ -180,7 +176,8 @@ fn guarded_and_acting(rt: HostRuntime) -> Result<(), Fail> {
         actions: all_actions(alloc)?,
     })?;
     let text = text_of(alloc, &chart)?;
-    let wanted = b"from B1 to B2 on e if (not (((((((((((((((- n) + 7) - 7) * 7) / 7) % 7) < 7) <= 7) > 7) >= 7) = 7) != 7) and 7) or 7)) do b := (in(B1) and done(job)), raise i, start rest, n := count(rest);\n";
+    let wanted =
+        b"from B1 to B2 on e if (not (((((((((((((((- n) + 7) - 7) * 7) / 7) % 7) < 7) <= 7) > 7) >= 7) = 7) != 7) and 7) or 7)) do b := (in(B1) and done(job)), raise i, start rest, n := count(rest);\n";
     let mut whole = before;
     whole.append(wanted.as_slice())?;
     assert!(rt; text.as_slice() == whole.as_slice());

@@ -27,11 +27,7 @@ fn append_action(text: &mut Bytes, chart: &Chart, action: &Action) -> Result<(),
     }
 }
 
-fn append_more_actions(
-    text: &mut Bytes,
-    chart: &Chart,
-    actions: &[Action],
-) -> Result<(), NoMemory>
+fn append_more_actions(text: &mut Bytes, chart: &Chart, actions: &[Action]) -> Result<(), NoMemory>
     ensures { OnOk result (text.new ≡ text.old ++ behind_commas (spec.action_text chart.now) actions.now) }
 {
     for action in actions {

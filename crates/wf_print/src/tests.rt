@@ -177,7 +177,7 @@ fn guarded_and_acting(rt: HostRuntime) -> Result<(), Fail> {
     })?;
     let text = text_of(alloc, &chart)?;
     let wanted =
-        b"from B1 to B2 on e if (not (((((((((((((((- n) + 7) - 7) * 7) / 7) % 7) < 7) <= 7) > 7) >= 7) = 7) != 7) and 7) or 7)) do b := (in(B1) and done(job)), raise i, start rest, n := count(rest);\n";
+        b"from B1 to B2 on e if (not ((((((((((((((- n) + 7) - 7) * 7) / 7) % 7) < 7) <= 7) > 7) >= 7) = 7) != 7) and 7) or 7)) do b := (in(B1) and done(job)), raise i, start rest, n := count(rest);\n";
     let mut whole = before;
     whole.append(wanted.as_slice())?;
     assert!(rt; text.as_slice() == whole.as_slice());

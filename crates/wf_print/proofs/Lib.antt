@@ -1,0 +1,4 @@
+pub mod Gathered
+pub mod Written
+pub mod Operators
+pub mod Pieces

@@ -1,0 +1,7 @@
+pub mod Names
+pub mod Words
+pub mod Expressions
+pub mod Declarations
+pub mod States
+pub mod Transitions
+pub mod ChartText

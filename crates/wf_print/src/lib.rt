@@ -1,0 +1,14 @@
+//! The canonical text of a chart.
+#![tactic(auto)]
+
+mod chart;
+mod declarations;
+mod expressions;
+mod names;
+mod states;
+#[cfg(test)]
+mod tests;
+mod transitions;
+mod words;
+
+pub use chart::print_chart;

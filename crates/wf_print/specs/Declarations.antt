@@ -6,7 +6,7 @@ use Rattle.wf_model.specs.declared.chart.Chart.{Chart}
 use Rattle.wf_model.specs.declared.chart.Event.{Event}
 use Rattle.wf_model.specs.declared.chart.Variable.{Variable}
 use Rattle.wf_model.specs.declared.chart.Activity.{Activity}
-use Rattle.wf_print.specs.Names.{unit_name, var_name}
+use Rattle.wf_words.specs.Names.{unit_name, var_name}
 use Rattle.wf_print.specs.Words.{sort_word, literal, listed}
 
 -- chart NAME ;

@@ -5,7 +5,7 @@ use lib.Chars.{codes}
 use Rattle.wf_model.specs.declared.chart.Chart.{Chart}
 use Rattle.wf_model.specs.declared.expr.Expr.{Expr, end_of-Expr, more_of-Expr}
 use Rattle.wf_model.specs.declared.expr.Expr.TheVariants as e
-use Rattle.wf_print.specs.Names.{var_name, state_name, act_name}
+use Rattle.wf_words.specs.Names.{var_name, state_name, act_name}
 use Rattle.wf_print.specs.Words.{truth_word, quoted, op_word}
 
 abbrev pub expr_text : Chart → Expr → List ℕ

@@ -8,7 +8,7 @@ use Rattle.wf_model.specs.declared.chart.Transition.{Transition}
 use Rattle.wf_model.specs.declared.chart.Action.{Action}
 use Rattle.wf_model.specs.declared.chart.Action.TheVariants as act
 use Rattle.wf_model.specs.Tree.{list_from}
-use Rattle.wf_print.specs.Names.{state_name, event_name, var_name, act_name}
+use Rattle.wf_words.specs.Names.{state_name, event_name, var_name, act_name}
 use Rattle.wf_print.specs.Words.{listed}
 use Rattle.wf_print.specs.Expressions.{expr_text}
 

@@ -1,12 +1,12 @@
 //! The lines of declarations.
 ghost use Rattle.std.specs.Prelude.{◌≡◌, ◌++◌, flat_map, codes, OnOk};
 ghost use Rattle.wf_print.specs.Words.{listed, behind_commas};
-ghost use Rattle.wf_print.specs.Names as named;
+ghost use Rattle.wf_words.specs.Names as named;
 ghost use Rattle.wf_print.specs.Declarations as spec;
 
-use crate::names::{unit_name, var_name};
 use crate::words::{append_literal, sort_word};
 use wf_model::{Activity, Bytes, Chart, Event, Name, NoMemory, UnitId, VarId, Variable};
+use wf_words::{unit_name, var_name};
 
 /// Appends the chart's own line.
 pub fn append_chart_line(text: &mut Bytes, chart: &Chart) -> Result<(), NoMemory>

@@ -2,9 +2,9 @@
 ghost use Rattle.std.specs.Prelude.{◌≡◌, ◌∷◌, ◌++◌, [], OnOk};
 ghost use Rattle.wf_print.specs.Expressions as spec;
 
-use crate::names::{act_name, state_name, var_name};
-use crate::words::{append_number, append_quoted, append_truth, op_word};
+use crate::words::{append_quoted, append_truth, op_word};
 use wf_model::{Bytes, Chart, Expr, NoMemory};
+use wf_words::{act_name, append_number, state_name, var_name};
 
 // Appends a name behind the word that asks about it.
 fn append_asked(text: &mut Bytes, word: &[u8], name: &[u8]) -> Result<(), NoMemory>

@@ -4,10 +4,7 @@
 mod chart;
 mod declarations;
 mod expressions;
-mod names;
 mod states;
-#[cfg(test)]
-mod tests;
 mod transitions;
 mod words;
 

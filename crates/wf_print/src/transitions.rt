@@ -4,8 +4,8 @@ ghost use Rattle.wf_print.specs.Words.{listed, behind_commas};
 ghost use Rattle.wf_print.specs.Transitions as spec;
 
 use crate::expressions::append_expr;
-use crate::names::{act_name, event_name, state_name, var_name};
 use wf_model::{Action, Bytes, Chart, EventId, Expr, NoMemory, Transition};
+use wf_words::{act_name, event_name, state_name, var_name};
 
 fn append_action(text: &mut Bytes, chart: &Chart, action: &Action) -> Result<(), NoMemory>
     ensures { OnOk result (text.new ≡ text.old ++ spec.action_text chart.now action.now) }

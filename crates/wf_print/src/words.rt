@@ -1,18 +1,9 @@
 //! The words that lines are made of. Where memory runs out, a part of what is appended may stand.
 ghost use Rattle.std.specs.Prelude.{◌≡◌, ◌++◌, OnOk};
-ghost use Rattle.std.specs.Fmt.{decimal};
 ghost use Rattle.wf_print.specs.Words as spec;
 
-use itoa::Buffer;
 use wf_model::{Bytes, Kind, NoMemory, Op, Sort, Txt, Val};
-
-/// Appends a number in decimal.
-pub fn append_number(text: &mut Bytes, number: u64) -> Result<(), NoMemory>
-    ensures { OnOk result (text.new ≡ text.old ++ decimal number) }
-{
-    let mut digits = Buffer::new();
-    text.append(digits.format(number).as_bytes())
-}
+use wf_words::append_number;
 
 /// Appends `true` or `false`.
 pub fn append_truth(text: &mut Bytes, truth: bool) -> Result<(), NoMemory>

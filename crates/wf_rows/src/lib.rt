@@ -10,6 +10,8 @@ mod faults;
 #[cfg(test)]
 mod inputs;
 #[cfg(test)]
+mod printed;
+#[cfg(test)]
 mod rows;
 #[cfg(test)]
 mod run;

@@ -68,12 +68,12 @@ fn check(rt: HostRuntime) -> Result<(), Fail> {
             "refused chart line 1 column 1 syntax\n",
         ),
         (
-            "chart c; unit a; or R at a { basic S at a; }\nfrom S to R;",
+            "chart c; unit a; or R at a { basic S at a; }\nfrom S to R;\n",
             Status::ChartRefused,
             "refused check t0 enters the root\n",
         ),
         (
-            "chart c; unit a; or R at a { basic S at a; }\n from S to Q;",
+            "chart c; unit a; or R at a { basic S at a; }\n from S to Q;\n",
             Status::ChartRefused,
             "refused chart line 2 column 12 unknown name\n",
         ),

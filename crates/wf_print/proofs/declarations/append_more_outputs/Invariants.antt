@@ -1,5 +1,5 @@
 use Rattle.std.proofs.Common.{◌≡◌, ◌++◌, drop}
-use Rattle.wf_print.specs.Names.{var_name}
+use Rattle.wf_words.specs.Names.{var_name}
 use Rattle.wf_print.specs.Words.{behind_commas}
 use Rattle.wf_print.proofs.declarations.append_more_outputs.Given as goal
 

@@ -1,0 +1,49 @@
+//! The canonical texts of charts, each of which is read back as it is printed.
+use crate::inputs::SINGLE;
+use std::alloc::Global;
+use std::test::Fail;
+use wf_check::check;
+use wf_model::Bytes;
+use wf_print::print_chart;
+use wf_text::read_chart;
+
+/// The canonical text of the chart that the text means.
+fn printed(alloc: Global, text: &str) -> Result<Bytes, Fail> {
+    let checked = check(alloc, read_chart(alloc, text.as_bytes())?)?;
+    Ok(print_chart(alloc, &checked)?)
+}
+
+const CANONICAL: &str = "chart m;
+unit a;
+unit b;
+event e at a;
+event i;
+var t : bool = false;
+var n : int = - 5;
+var w : text = \"h\";
+activity job at a gives n, t;
+activity rest at b;
+or R at a {
+  and A at a {
+    or B at a {
+      basic B1 at a;
+      basic B2 at a;
+    }
+    basic C at b;
+  }
+  basic D at a;
+}
+from B1 to B2 on e if (((((((- n) + 7) - 7) * 7) / 7) % 7) < 7) do t := (in(B1) and done(job)), raise i, start rest;
+from B2 to D if (not ((n <= 7) or (n > 7))) do n := count(rest);
+from A to D on fault if ((n >= 7) = (w != \"x\"));
+";
+
+#[test]
+fn canonical(rt: HostRuntime) -> Result<(), Fail> {
+    let single = printed(rt.alloc(), SINGLE)?;
+    let five = "chart m;\nunit a;\nor R at a {\n  basic S at a;\n}\n";
+    assert_eq!(rt; single.as_slice(), five.as_bytes());
+    let again = printed(rt.alloc(), CANONICAL)?;
+    assert_eq!(rt; again.as_slice(), CANONICAL.as_bytes());
+    Ok(())
+}

@@ -1,3 +1,4 @@
 pub mod Known
+pub mod LastLine
 pub mod Turns
 pub mod Examples

@@ -1,4 +1,6 @@
 pub mod Fault
+pub mod Places
+pub mod ChartFaults
 pub mod Pieces
 pub mod Names
 pub mod Input

@@ -1,2 +1,3 @@
+pub mod LastLine
 pub mod Turns
 pub mod Examples

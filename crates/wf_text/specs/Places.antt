@@ -1,7 +1,7 @@
 -- Lines and columns of a text, counted in bytes from 1.
 use Rattle.std.specs.Prelude.{ℕ, ◌+◌, ◌==◌, Bool, List, length, take, count_by}
 use Rattle.std.specs.List.{after_last}
-use Rattle.wf_text.specs.declared.place.Place.{Place}
+use Rattle.wf_text.specs.declared.places.Place.{Place}
 
 abbrev pub is_lf : ℕ → Bool
 is_lf b = b == 10

@@ -10,7 +10,7 @@ use Rattle.wf_cursor.specs.Fault.{fault_of}
 use Rattle.wf_cursor.specs.Input.{Outcome, Parser, ◌>>=◌, ◌>>◌, pure, syntax, start_of, expect, name, chart_with}
 use Rattle.wf_cursor.specs.declared.fault.TextFault.{TextFault}
 use Rattle.wf_text.specs.declared.chart_fault.ChartFault.{ChartFault}
-use Rattle.wf_text.specs.ChartFaults.{chart_fault}
+use Rattle.wf_text.specs.ChartFaults.{placed_fault}
 use Rattle.wf_text.specs.Declarations.{declarations}
 use Rattle.wf_text.specs.States.{root}
 use Rattle.wf_text.specs.Transitions.{transitions}
@@ -39,7 +39,7 @@ whole (Err e) = Err e
 -- with the place of a fault in the text of these tokens
 abbrev pub with_place : List ℕ → List Token → Result Chart TextFault → Result Chart ChartFault
 with_place text tokens (Ok chart) = Ok chart
-with_place text tokens (Err e) = Err (chart_fault text tokens e)
+with_place text tokens (Err e) = Err (placed_fault text tokens e)
 
 abbrev pub chart_from : List ℕ → Result (List Token) LexFault → Result Chart ChartFault
 chart_from text (Ok tokens) = with_place text tokens (whole (contents (start_of text tokens)))

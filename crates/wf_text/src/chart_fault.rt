@@ -3,7 +3,7 @@ ghost use Rattle.std.specs.Prelude.{◌≡◌, ◌≤◌, length};
 ghost use Rattle.wf_model.specs.declared.limits.TheConstants.{MAX_INPUT};
 ghost use Rattle.wf_text.specs.ChartFaults as spec;
 
-use crate::place::{Place, place_of};
+use crate::places::{Place, place_of};
 use thiserror::Error;
 use wf_cursor::TextFault;
 use wf_lex::Token;
@@ -46,10 +46,10 @@ fn token_place(text: &[u8], tokens: &[Token], at: usize) -> Place
 }
 
 /// The fault with its place, of a text with these tokens. Linear in the text.
-#[tactic(auto, unfolding(crate::specs::ChartFaults::chart_fault))]
-pub fn chart_fault(text: &[u8], tokens: &[Token], fault: TextFault) -> ChartFault
+#[tactic(auto, unfolding(crate::specs::ChartFaults::placed_fault))]
+pub fn placed_fault(text: &[u8], tokens: &[Token], fault: TextFault) -> ChartFault
     requires { length text.now ≤ MAX_INPUT }
-    ensures { result ≡ spec.chart_fault text.now tokens.now fault }
+    ensures { result ≡ spec.placed_fault text.now tokens.now fault }
 {
     match fault {
         TextFault::BadByte { at } => {

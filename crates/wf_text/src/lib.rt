@@ -4,7 +4,7 @@
 mod actions;
 mod chart_fault;
 mod declarations;
-mod place;
+mod places;
 mod states;
 mod text;
 mod transitions;

@@ -5,7 +5,7 @@ ghost use Rattle.wf_text.specs.Text as spec;
 ghost use Rattle.wf_text.specs.Text.{Gives};
 
 use crate::ChartFault;
-use crate::chart_fault::chart_fault;
+use crate::chart_fault::placed_fault;
 use crate::declarations::declarations;
 use crate::states::root;
 use crate::transitions::transitions;
@@ -51,9 +51,9 @@ pub fn read_chart(alloc: Global, text: &[u8]) -> Result<Chart, ChartFault>
     match tokens(alloc, text) {
         Ok(tokens) => match chart(alloc, text, tokens.as_slice()) {
             Ok(chart) => Ok(chart),
-            Err(fault) => Err(chart_fault(text, tokens.as_slice(), fault)),
+            Err(fault) => Err(placed_fault(text, tokens.as_slice(), fault)),
         },
-        Err(fault) => Err(chart_fault(text, &[], fault.into())),
+        Err(fault) => Err(placed_fault(text, &[], fault.into())),
     }
 }
 

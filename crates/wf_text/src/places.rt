@@ -1,6 +1,5 @@
 //! Lines and columns of a text.
-ghost use Rattle.std.specs.Prelude.{◌≡◌, ◌≤◌, ◌+◌, length, take, count_by};
-ghost use Rattle.std.specs.List.{after_last};
+ghost use Rattle.std.specs.Prelude.{◌≡◌, ◌≤◌, ◌+◌, length, take, take_while, reverse, not, count_by};
 ghost use Rattle.wf_model.specs.declared.limits.TheConstants.{MAX_INPUT};
 ghost use Rattle.wf_text.specs.Places as spec;
 
@@ -20,7 +19,7 @@ fn lfs(bytes: &[u8]) -> usize
 
 // How many bytes stand behind the last LF.
 fn last_line_len(bytes: &[u8]) -> usize
-    ensures value { result ≡ length (after_last spec.is_lf bytes.now) }
+    ensures value { result ≡ length (take_while (λ b. not (spec.is_lf b)) (reverse bytes.now)) }
     ensures within { result ≤ length bytes.now }
 {
     bytes
@@ -31,7 +30,7 @@ fn last_line_len(bytes: &[u8]) -> usize
 }
 
 /// The place of the byte that has `at` bytes before it; past the end of the text, that of the end. Linear in these bytes.
-#[tactic(auto, unfolding(crate::specs::Places::place_of))]
+#[tactic(auto, using(crate::proofs::LastLine::last_line_length), unfolding(crate::specs::Places::place_of))]
 pub fn place_of(text: &[u8], at: usize) -> Place
     requires { length text.now ≤ MAX_INPUT }
     ensures { result ≡ spec.place_of text.now at }

@@ -5,6 +5,7 @@ use Rattle.wf_model.specs.declared.expr.Op.{Op}
 use Rattle.wf_model.specs.declared.expr.Expr.{Expr}
 use Rattle.wf_model.specs.declared.expr.Expr.TheVariants.{Not, Neg, Bin}
 use Rattle.wf_model.specs.Accepted.{nodes, is_known_expr}
+use Rattle.wf_model.specs.ValuesLaws.{typed-Not, typed-Neg, typed-Bin, HasAll-Not, HasAll-Neg, HasAll-Bin}
 
 pub nodes-Not : (x : Expr) → nodes (Not x) ≡ nodes x + 1
 unfolding Rattle.wf_model.specs.declared.expr.Expr.TheBlock.hidden-the_row-Expr-0 denote.Hole.Carrier.hidden
@@ -35,3 +36,6 @@ known-Bin c op x y = refl
 
 -- whether numbers are known, by all three
 pub ruleset known_laws = (known-Not, known-Neg, known-Bin)
+
+-- what an operand has, of an expression that has a sort, and all of whose numbers a snapshot has
+pub ruleset operand_laws = (typed-Not, typed-Neg, typed-Bin, HasAll-Not, HasAll-Neg, HasAll-Bin)

@@ -49,18 +49,25 @@ pub enum CheckFault {
     /// The name of this part isn't one, or was used before.
     #[error("bad name: {what:?} {at}")]
     BadName { what: What, at: u32 },
+    /// There is no state.
     #[error("no root")]
     NoRoot,
+    /// State 0 is no Or state.
     #[error("the root is not an Or state")]
     RootNotOr,
+    /// This state is deeper than the limit.
     #[error("too deep: {state:?}")]
     TooDeep { state: StateId },
+    /// This Or state has no children.
     #[error("an Or state without children: {state:?}")]
     EmptyOr { state: StateId },
+    /// This And state has no children.
     #[error("an And state without children: {state:?}")]
     EmptyAnd { state: StateId },
+    /// This basic state has children.
     #[error("a basic state with children: {state:?}")]
     BasicWithChildren { state: StateId },
+    /// The value at this place hasn't the sort that is wanted.
     #[error("another sort: {place:?}")]
     BadType { place: TypePlace },
     /// A variable stands twice among the outputs of this activity.
@@ -72,6 +79,7 @@ pub enum CheckFault {
     /// The target of this transition is the root.
     #[error("the root is the target: {t:?}")]
     TargetRoot { t: TransId },
+    /// Memory ran out. The chart may be accepted.
     #[error("out of memory")]
     NoMemory,
 }

@@ -1,3 +1,4 @@
+pub mod Given
 pub mod LastLine
 pub mod Turns
 pub mod Examples

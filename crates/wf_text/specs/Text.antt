@@ -1,5 +1,5 @@
 -- chart = chart NAME ; { decl } [ state ] { trans }
-use Rattle.std.specs.Prelude.{◌≡◌, ◌≢◌, ℕ, if◌then◌else◌, nat_lt, List, length, Result, Ok, Err}
+use Rattle.std.specs.Prelude.{◌≡◌, ◌≢◌, ℕ, if◌then◌else◌, nat_lt, List, [], length, Result, Ok, Err}
 use Rattle.wf_model.specs.declared.chart.Chart.{Chart}
 use Rattle.wf_model.specs.declared.chart.Transition.{Transition}
 use Rattle.wf_lex.specs.declared.token.Token.{Token}

@@ -1,0 +1,29 @@
+use Rattle.std.proofs.Common.{rules, arith}
+use Rattle.std.proofs.lemmas.Grind.{common_steps}
+use Rattle.wf_text.specs.Declarations.{outputs, outputs_from}
+use Rattle.wf_text.proofs.Turns.{one_more, no_more}
+use Rattle.wf_text.proofs.declarations.outputs.Goals as goal
+
+pub returns-then-not-eat : goal.returns-then-not-eat
+unfolding outputs_from
+returns-then-not-eat c =
+    let e = one_more (λ n. outputs_from n c.loop-turn.found c.loop-turn.cursor) _ c.loop-turn._turn c.loop-turn-test.true c.loop-turn.invariant in
+    first_of (search rules, grind (arith, common_steps))
+
+pub returns-in_err-next : goal.returns-in_err-next
+unfolding outputs_from
+returns-in_err-next c =
+    let e = one_more (λ n. outputs_from n c.loop-turn.found c.loop-turn.cursor) _ c.loop-turn._turn c.loop-turn-test.true c.loop-turn.invariant in
+    first_of (search rules, grind (arith, common_steps))
+
+pub loop-turn-preserved : goal.loop-turn-preserved
+unfolding outputs_from
+loop-turn-preserved c =
+    let e = one_more (λ n. outputs_from n c.loop-turn.found c.loop-turn.cursor) _ c.loop-turn._turn c.loop-turn-test.true c.loop-turn.invariant in
+    first_of (search rules, grind (arith, common_steps))
+
+pub returns : goal.returns
+unfolding outputs_from
+returns c =
+    let e = no_more (λ n. outputs_from n c.loop-turn.found c.loop-turn.cursor) _ c.loop-turn._turn c.loop-turn-test.false c.loop-turn.invariant in
+    first_of (search rules, grind (arith, common_steps))

@@ -5,3 +5,4 @@ pub mod Declarations
 pub mod States
 pub mod Transitions
 pub mod ChartText
+pub mod Lined

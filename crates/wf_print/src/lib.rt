@@ -4,6 +4,7 @@
 mod chart;
 mod declarations;
 mod expressions;
+mod laws;
 mod names;
 mod states;
 #[cfg(test)]
@@ -12,3 +13,4 @@ mod transitions;
 mod words;
 
 pub use chart::print_chart;
+pub use laws::text_is_lined;

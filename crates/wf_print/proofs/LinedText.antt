@@ -1,5 +1,5 @@
 -- The canonical text, piece by piece: each leads from the beginning or the inside of a line to the one or the other.
-use Rattle.std.proofs.Common.{◌≡◌, ℕ, zero, suc, ◌+◌, ◌*◌, ◌/◌, ◌%◌, ◌==◌, ◌&&◌, cond, not, Bool, true, false, List, [], ◌∷◌, ◌++◌, length, map, flat_map, drop, slice_get, nat_lt, ◌<◌, replicate, Option, Some, None, nat_le, pos, negsuc, IsTrue, refl, sym, ◌∙◌, ap, arith, append-nil, true≢false}
+use Rattle.std.proofs.Common.{◌≡◌, ℕ, zero, suc, ◌+◌, ◌*◌, ◌/◌, ◌%◌, ◌==◌, ◌&&◌, cond, Bool, true, false, List, [], ◌∷◌, ◌++◌, length, map, flat_map, drop, slice_get, nat_lt, ◌<◌, replicate, Option, Some, None, pos, negsuc, refl, sym, ◌∙◌, ap, arith, append-nil, true≢false}
 use Rattle.std.specs.List.{list_all}
 use Rattle.std.specs.Option.{option_map_or}
 use Rattle.std.specs.Fmt.{decimal, digits, digits_onto, digit_glyph}
@@ -35,10 +35,10 @@ use Rattle.wf_model.specs.Txt.{is_text_char, is_text}
 use Rattle.wf_model.specs.Tree.{children, list_from}
 use Rattle.wf_model.specs.Accepted.{IsAccepted, is_accepted, is_named, all_of}
 use Rattle.wf_print.specs.Names.{unit_name, event_name, var_name, act_name, state_name}
-use Rattle.wf_print.specs.Words.{truth_word, quoted, sort_word, kind_word, op_word, literal, behind_commas, listed}
+use Rattle.wf_print.specs.Words.{quoted, sort_word, kind_word, op_word, literal, behind_commas, listed}
 use Rattle.wf_print.specs.Expressions.{expr_text}
 use Rattle.wf_print.specs.Declarations.{chart_line, unit_line, place, place_of, event_line, var_line, activity_line}
-use Rattle.wf_print.specs.States.{indent, state_head, opening, closing, body, state_text}
+use Rattle.wf_print.specs.States.{state_head, opening, closing, body, state_text}
 use Rattle.wf_print.specs.Transitions.{action_text, ends, trigger, condition, transition_line}
 use Rattle.wf_print.specs.ChartText.{chart_text}
 use Rattle.wf_print.specs.Lined.{is_printable, are_lines, is_text_value, has_texts, assigns_texts, moves_by_texts, are_texts, TextIsLined}

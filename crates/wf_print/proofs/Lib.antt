@@ -3,3 +3,4 @@ pub mod Written
 pub mod Operators
 pub mod Pieces
 pub mod LinedText
+pub mod NestedText

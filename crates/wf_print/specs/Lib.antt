@@ -6,3 +6,4 @@ pub mod States
 pub mod Transitions
 pub mod ChartText
 pub mod Lined
+pub mod Nested

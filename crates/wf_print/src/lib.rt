@@ -13,4 +13,4 @@ mod transitions;
 mod words;
 
 pub use chart::print_chart;
-pub use laws::text_is_lined;
+pub use laws::{states_read, text_is_lined};

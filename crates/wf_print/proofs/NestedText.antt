@@ -47,10 +47,10 @@ pub states_read : StatesRead
 states_read chart accepted = (
   ap (at_depth chart 0) (sym (depth_root chart)),
   λ s state is.
-  let ok = chart_of chart accepted in
-  let within : depth chart s < MAX_DEPTH = ok.few_ancestors s (get_within chart.states s state is) in
-  state_text-some chart (depth chart s) s state within is
-  ∙ ap (λ (texts : List ℕ). opening chart (depth chart s) state ++ body (depth chart s) (length (children chart s) == 0) texts)
-  (sym (same_texts (text_from chart) (state_text chart (MAX_DEPTH - (depth chart s + 1)) (depth chart s + 1)) (children chart s)
-  (λ k m. ap (at_depth chart k) (depth_child chart ok k s (mem_child_parent chart s k m)))))
+      let ok = chart_of chart accepted in
+      let within : depth chart s < MAX_DEPTH = ok.few_ancestors s (get_within chart.states s state is) in
+      state_text-some chart (depth chart s) s state within is
+      ∙ ap (λ (texts : List ℕ). opening chart (depth chart s) state ++ body (depth chart s) (length (children chart s) == 0) texts)
+      (sym (same_texts (text_from chart) (state_text chart (MAX_DEPTH - (depth chart s + 1)) (depth chart s + 1)) (children chart s)
+      (λ k m. ap (at_depth chart k) (depth_child chart ok k s (mem_child_parent chart s k m))))),
 )

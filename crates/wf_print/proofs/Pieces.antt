@@ -16,7 +16,7 @@ abbrev pub inner : Chart → ℕ → List ℕ → List ℕ
 inner chart depth inside = flat_map (state_text chart (MAX_DEPTH - (depth + 1)) (depth + 1)) inside
 
 -- a state has its line and, between braces, the texts of its children
-state_text-some : (chart : Chart) (depth s : ℕ) (state : State) → depth < MAX_DEPTH → slice_get chart.states s ≡ Some state
+pub state_text-some : (chart : Chart) (depth s : ℕ) (state : State) → depth < MAX_DEPTH → slice_get chart.states s ≡ Some state
     → state_text chart (MAX_DEPTH - depth) depth s ≡ opening chart depth state ++ body depth (length (children chart s) == 0) (inner chart depth (children chart s))
 unfolding state_text
 state_text-some chart depth s state within is =

@@ -1,5 +1,5 @@
 -- How long the last line is.
-use Rattle.std.proofs.Common.{◌≡◌, ◌≤◌, ℕ, ◌-◌, List, length, take, drop, not, take_while, reverse, ◌∙◌, sym, arith, length-drop}
+use Rattle.std.proofs.Common.{◌≡◌, ℕ, ◌-◌, List, length, not, take_while, reverse, arith, length-drop}
 use Rattle.std.specs.List.{after_last, prefix_len}
 use Rattle.std.proofs.lemmas.List.{length-reverse, length-take}
 use Rattle.std.proofs.lemmas.List.Folds.{length-prefix_len}

@@ -6,9 +6,13 @@ use Rattle.wf_text.specs.declared.chart_fault.ChartFault.{ChartFault}
 use Rattle.wf_text.specs.declared.chart_fault.ChartFault.TheVariants as fault
 use Rattle.wf_refusals.specs.Lines.{refusal}
 
+-- chart line LINE column COL
+unfoldable pub place_words : ℕ → ℕ → List ℕ
+place_words line col = codes "chart line " ++ decimal line ++ codes " column " ++ decimal col
+
 -- chart line LINE column COL WHAT
 abbrev pub placed : ℕ → ℕ → List ℕ → List ℕ
-placed line col what = codes "chart line " ++ decimal line ++ codes " column " ++ decimal col ++ what
+placed line col what = place_words line col ++ what
 
 -- want of memory has no line
 unfoldable pub text_fault_line : ChartFault → List ℕ

@@ -14,6 +14,22 @@ fn append_count(text: &mut Bytes, word: &[u8], count: usize) -> Result<(), NoMem
     append_number(text, count as u64)
 }
 
+fn append_declared(text: &mut Bytes, chart: &Chart) -> Result<(), NoMemory>
+    ensures { OnOk result (text.new ≡ text.old ++ spec.declared_counts chart.now) }
+{
+    append_count(text, b" units ", chart.units.len())?;
+    append_count(text, b" events ", chart.events.len())?;
+    append_count(text, b" vars ", chart.vars.len())?;
+    append_count(text, b" activities ", chart.acts.len())
+}
+
+fn append_drawn(text: &mut Bytes, chart: &Chart) -> Result<(), NoMemory>
+    ensures { OnOk result (text.new ≡ text.old ++ spec.drawn_counts chart.now) }
+{
+    append_count(text, b" states ", chart.states.len())?;
+    append_count(text, b" transitions ", chart.transitions.len())
+}
+
 /// Appends the line of an accepted chart: its name, and how many it has of each kind.
 #[tactic(auto, unfolding(crate::specs::Accepted::accepted_line))]
 pub fn append_accepted(text: &mut Bytes, chart: &Chart) -> Result<(), NoMemory>
@@ -21,11 +37,7 @@ pub fn append_accepted(text: &mut Bytes, chart: &Chart) -> Result<(), NoMemory>
 {
     text.append(b"accepted ")?;
     text.append(chart.name.as_bytes())?;
-    append_count(text, b" units ", chart.units.len())?;
-    append_count(text, b" events ", chart.events.len())?;
-    append_count(text, b" vars ", chart.vars.len())?;
-    append_count(text, b" activities ", chart.acts.len())?;
-    append_count(text, b" states ", chart.states.len())?;
-    append_count(text, b" transitions ", chart.transitions.len())?;
+    append_declared(text, chart)?;
+    append_drawn(text, chart)?;
     text.append(b"\n")
 }

@@ -37,15 +37,31 @@ fn append_named(text: &mut Bytes, before: &[u8], name: &[u8], behind: &[u8]) -> 
     text.append(b"\n")
 }
 
+// Appends the line of a rule on parts of this kind.
+fn append_kind(text: &mut Bytes, rule: &[u8], what: What) -> Result<(), NoMemory>
+    ensures { OnOk result (text.new ≡ text.old ++ spec.check_line (rule.now ++ spec.what_word what)) }
+{
+    text.append(b"refused check ")?;
+    text.append(rule)?;
+    text.append(what_word(what))?;
+    text.append(b"\n")
+}
+
+fn append_numbered(text: &mut Bytes, what: What, at: u32) -> Result<(), NoMemory>
+    ensures { OnOk result (text.new ≡ text.old ++ spec.what_word what ++ codes " " ++ decimal at) }
+{
+    text.append(what_word(what))?;
+    text.append(b" ")?;
+    append_number(text, at.into())
+}
+
 // Appends the line of a rule on the part of this kind and number.
 fn append_part(text: &mut Bytes, rule: &[u8], what: What, at: u32) -> Result<(), NoMemory>
     ensures { OnOk result (text.new ≡ text.old ++ spec.check_line (rule.now ++ spec.what_word what ++ codes " " ++ decimal at)) }
 {
     text.append(b"refused check ")?;
     text.append(rule)?;
-    text.append(what_word(what))?;
-    text.append(b" ")?;
-    append_number(text, at.into())?;
+    append_numbered(text, what, at)?;
     text.append(b"\n")
 }
 
@@ -97,7 +113,7 @@ pub fn append_check_fault(
     ensures { OnOk result (text.new ≡ text.old ++ spec.check_fault_line chart.now fault) }
 {
     match fault {
-        CheckFault::TooMany { what } => append_named(text, b"too many ", what_word(what), b""),
+        CheckFault::TooMany { what } => append_kind(text, b"too many ", what),
         CheckFault::BadId { what, at } => append_part(text, b"bad id ", what, at),
         CheckFault::BadName { what, at } => append_part(text, b"bad name ", what, at),
         CheckFault::NoRoot => append_named(text, b"no root", b"", b""),

@@ -1,5 +1,6 @@
 //! Why a text means no chart.
 ghost use Rattle.std.specs.Prelude.{◌≡◌, ◌++◌, OnOk};
+ghost use lib.Chars.{codes};
 ghost use Rattle.wf_refusals.specs.TextFaults as spec;
 ghost use Rattle.wf_refusals.specs.Lines.{refusal};
 
@@ -7,13 +8,20 @@ use wf_model::{Bytes, NoMemory};
 use wf_text::ChartFault;
 use wf_words::append_number;
 
-fn append_placed(text: &mut Bytes, line: u32, col: u32, what: &[u8]) -> Result<(), NoMemory>
-    ensures { OnOk result (text.new ≡ text.old ++ refusal (spec.placed line col what.now)) }
+#[tactic(auto, unfolding(crate::specs::TextFaults::place_words))]
+fn append_place(text: &mut Bytes, line: u32, col: u32) -> Result<(), NoMemory>
+    ensures { OnOk result (text.new ≡ text.old ++ codes "refused " ++ spec.place_words line col) }
 {
     text.append(b"refused chart line ")?;
     append_number(text, line.into())?;
     text.append(b" column ")?;
-    append_number(text, col.into())?;
+    append_number(text, col.into())
+}
+
+fn append_placed(text: &mut Bytes, line: u32, col: u32, what: &[u8]) -> Result<(), NoMemory>
+    ensures { OnOk result (text.new ≡ text.old ++ refusal (spec.placed line col what.now)) }
+{
+    append_place(text, line, col)?;
     text.append(what)?;
     text.append(b"\n")
 }

@@ -54,7 +54,7 @@ fn central(alloc: Global, chart: &Checked, script: &[u8]) -> Result<Answer, NoMe
 
 /// The answer of a command to an input.
 #[tactic(auto, unfolding(crate::specs::Answers::answer_within))]
-pub fn answer(alloc: Global, command: Command, input: &[u8]) -> Result<Answer, NoMemory>
+pub fn answer_to(alloc: Global, command: Command, input: &[u8]) -> Result<Answer, NoMemory>
     requires { length input.now ≤ MAX_INPUT }
     ensures { IfOk result (λ a. a ≡ spec.answer_within command input.now) }
 {

@@ -5,7 +5,7 @@ ghost use Rattle.wf_io.specs.Causes.{Rose};
 ghost use Rattle.wf_top.specs.Top.{MayAnswer};
 ghost use Rattle.wf_model.specs.declared.status.Status.TheVariants.{WriteFault};
 
-use crate::answer::answer;
+use crate::answer::answer_to;
 use crate::command::command_of;
 use std::alloc::Global;
 use wf_io::{Clock, InFault, Sink, Source, read_all, write_all};
@@ -48,7 +48,7 @@ pub fn mentor<S: Source, K: Sink, C: Clock>(
         Err(InFault::ReadFailed) => finish(sink, Status::ReadFault, b"refused read\n"),
         Err(InFault::TooLong) => finish(sink, Status::Limit, b"refused limit input\n"),
         Err(InFault::NoMemory) => Status::NoMemory,
-        Ok(input) => match answer(alloc, command, input.as_slice()) {
+        Ok(input) => match answer_to(alloc, command, input.as_slice()) {
             Err(NoMemory) => Status::NoMemory,
             Ok(found) => finish(sink, found.status, found.text.as_slice()),
         },

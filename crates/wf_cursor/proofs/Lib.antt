@@ -1,3 +1,4 @@
 pub mod Known
 pub mod Digits
 pub mod Characters
+pub mod Reserved

@@ -3,3 +3,4 @@ pub mod Pieces
 pub mod Names
 pub mod Values
 pub mod Input
+pub mod Laws

@@ -16,7 +16,11 @@ use wf_model::{
     UnitId, VarId, Variable,
 };
 
-/// What is left of the tokens, and the chart and the names so far.
+/// What is left of the tokens, with the parts and the names that were declared so far.
+///
+/// A call that takes a token of a kind answers `Syntax` where the next token is of another kind or there is none. Then
+/// `Oversize` comes where it is too large: a name of over 32 bytes, a Text of over 64 characters, an Int above its
+/// limit. Then come `UnknownName` and `DoubleName`. After a fault no more is to be read: which tokens are left is free.
 #[derive(Drop)]
 pub struct Cursor<'a> {
     text: &'a [u8],
@@ -237,7 +241,8 @@ impl<'a> Cursor<'a> {
         self.names.declare(alloc, name, what)
     }
 
-    /// Takes a name that isn't declared yet, and declares it.
+    /// Takes a name that isn't declared yet, and declares it; `DoubleName` where it is. In constant time on average,
+    /// beside the bytes of the name.
     #[tactic(auto, unfolding(crate::specs::Input::new_name))]
     pub fn new_name(&mut self, alloc: Global, what: Declared) -> Result<Name, TextFault>
         ensures { Reads (spec.new_name what self.old) result self.new }
@@ -356,7 +361,7 @@ impl<'a> Cursor<'a> {
         self.int_up_to(MAX_INT)
     }
 
-    /// Takes an Int that stands behind the `-` of a literal, so that it may be greater by one.
+    /// Takes an Int that stands behind the `-` of a literal, so of at most 9223372036854775808.
     #[tactic(auto, unfolding(crate::specs::Input::negated_int))]
     pub fn negated_int(&mut self) -> Result<u64, TextFault>
         ensures reads { Reads (spec.negated_int self.old) result self.new }
@@ -390,7 +395,7 @@ impl<'a> Cursor<'a> {
         self.nodes = 0;
     }
 
-    /// Counts the node that the next token makes, of which an expression has at most 64. Takes no token.
+    /// Counts the node that the next token makes: `Oversize` where that is node 65 of the expression. Takes no token.
     #[tactic(auto, unfolding(crate::specs::Input::node))]
     pub fn node(&mut self) -> Result<(), TextFault>
         ensures reads { Reads (spec.node self.old) result self.new }

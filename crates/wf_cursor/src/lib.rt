@@ -4,11 +4,13 @@
 
 mod cursor;
 mod fault;
+mod laws;
 mod names;
 mod piece;
 mod value;
 
 pub use cursor::Cursor;
 pub use fault::TextFault;
+pub use laws::names_are_not_reserved;
 pub use names::Declared;
 pub use piece::Piece;

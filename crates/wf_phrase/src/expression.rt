@@ -26,8 +26,10 @@ fn parens(alloc: Global, cursor: &mut Cursor<'_>, depth: usize) -> Result<Expr, 
     Ok(inner)
 }
 
-/// Reads an expression: the longest that begins at the next token. Answers the first fault where none does, or where
-/// it has more than 64 nodes or more than 64 parentheses that are open at once. Linear in its tokens, on average.
+/// Reads an expression from the next token on, as far as its rules go. The faults are `Syntax` at a token that no rule
+/// takes, `UnknownName` at a name that isn't declared as what is wanted, and `Oversize` at a name, an Int or a Text that
+/// is too large, at the token that would make node 65, and at the 65th parenthesis that is open at once. The first
+/// that is met is answered. Linear in the tokens that are read, on average.
 #[tactic(auto, unfolding(crate::specs::Expressions::expr))]
 pub fn expr(alloc: Global, cursor: &mut Cursor<'_>) -> Result<Expr, TextFault>
     ensures { Reads (spec.expr cursor.old) result cursor.new }

@@ -1,0 +1,61 @@
+use Rattle.std.proofs.Common.{◌≡◌, ◌∙◌, ◌≤◌, ◌<◌, length, IfSome, Some, None, refl, sym, ap, rules}
+use Rattle.std.specs.Io.KnownBytes.{Consumes, IsAtEnd}
+use lib.Chars.{codes}
+use Rattle.wf_model.specs.declared.limits.TheConstants.{MAX_INPUT}
+use Rattle.wf_model.specs.declared.status.Status.TheVariants as status
+use Rattle.wf_io.specs.Causes.{Rose}
+use Rattle.wf_refusals.specs.Lines.{refusal}
+use Rattle.wf_top.specs.Answers.{answer, answer_within, command_of}
+use Rattle.wf_top.proofs.Dues.{finished, long_answer, read_answer, answer_due}
+use Rattle.wf_top.proofs.top.mentor.Goals as goal
+
+pub returns-in_default : goal.returns-in_default
+returns-in_default g c =
+    let unnamed : command_of c.args.words.now ≡ None = search rules in
+    finished c.args.words.now (record { left = g.S.Source.left c.args.source.now; read_faults = g.S.Source.faults c.args.source.now; held = g.K.Sink.held c.args.sink.now; write_faults = g.K.Sink.faults c.args.sink.now })
+    (record { left = g.S.Source.left c.args.source.now; read_faults = g.S.Source.faults c.args.source.now; held = g.K.Sink.held c.finish.new.sink; write_faults = g.K.Sink.faults c.finish.new.sink })
+    status.Words (refusal (codes "words")) c.finish.result
+    (unnamed, record { left = refl; faults = refl }, refl)
+    c.finish.ensures
+
+pub returns-in-Err-ReadFailed : goal.returns-in-Err-ReadFailed
+returns-in-Err-ReadFailed g c =
+    let named : command_of c.args.words.now ≡ Some c.in-Some.command = search rules in
+    let rose : Rose (g.S.Source.faults c.args.source.now) (g.S.Source.faults c.read_all.new.source) = search rules in
+    finished c.args.words.now (record { left = g.S.Source.left c.args.source.now; read_faults = g.S.Source.faults c.args.source.now; held = g.K.Sink.held c.args.sink.now; write_faults = g.K.Sink.faults c.args.sink.now })
+    (record { left = g.S.Source.left c.read_all.new.source; read_faults = g.S.Source.faults c.read_all.new.source; held = g.K.Sink.held c.finish-in-Err-ReadFailed.new.sink; write_faults = g.K.Sink.faults c.finish-in-Err-ReadFailed.new.sink })
+    status.ReadFault (refusal (codes "read")) c.finish-in-Err-ReadFailed.result
+    (record { command = c.in-Some.command; named = named; faults = rose }, refl)
+    c.finish-in-Err-ReadFailed.ensures
+
+pub returns-in-Err-TooLong : goal.returns-in-Err-TooLong
+returns-in-Err-TooLong g c =
+    let named : command_of c.args.words.now ≡ Some c.in-Some.command = search rules in
+    let kept : g.S.Source.faults c.read_all.new.source ≡ g.S.Source.faults c.args.source.now = search rules in
+    let long : IfSome (g.S.Source.left c.args.source.now) (λ bytes. MAX_INPUT < length bytes) = search rules in
+    finished c.args.words.now (record { left = g.S.Source.left c.args.source.now; read_faults = g.S.Source.faults c.args.source.now; held = g.K.Sink.held c.args.sink.now; write_faults = g.K.Sink.faults c.args.sink.now })
+    (record { left = g.S.Source.left c.read_all.new.source; read_faults = g.S.Source.faults c.read_all.new.source; held = g.K.Sink.held c.finish-in-Err-TooLong.new.sink; write_faults = g.K.Sink.faults c.finish-in-Err-TooLong.new.sink })
+    status.Limit (refusal (codes "limit input")) c.finish-in-Err-TooLong.result
+    (record { command = c.in-Some.command; named = named; faults = kept; answer = long_answer c.in-Some.command (g.S.Source.left c.args.source.now) long })
+    c.finish-in-Err-TooLong.ensures
+
+pub returns : goal.returns
+returns g c =
+    let named : command_of c.args.words.now ≡ Some c.in-Some.command = search rules in
+    let kept : g.S.Source.faults c.read_all.new.source ≡ g.S.Source.faults c.args.source.now = search rules in
+    let taken : Consumes (g.S.Source.left c.args.source.now) (g.S.Source.left c.read_all.new.source) c.in-Ok.input = search rules in
+    let end : IsAtEnd (g.S.Source.left c.read_all.new.source) = search rules in
+    let within : length c.in-Ok.input ≤ MAX_INPUT = search rules in
+    let found : c.in-Ok-answer_to.found ≡ answer_within c.in-Some.command c.in-Ok.input = search rules in
+    let text : c.as_slice-in-Ok-answer_to.result.now ≡ c.in-Ok-answer_to.found.text = search rules in
+    let is : answer c.in-Ok-answer_to.found.status c.as_slice-in-Ok-answer_to.result.now ≡ answer_within c.in-Some.command c.in-Ok.input =
+    ap (answer c.in-Ok-answer_to.found.status) text ∙ found in
+    finished c.args.words.now (record { left = g.S.Source.left c.args.source.now; read_faults = g.S.Source.faults c.args.source.now; held = g.K.Sink.held c.args.sink.now; write_faults = g.K.Sink.faults c.args.sink.now })
+    (record { left = g.S.Source.left c.read_all.new.source; read_faults = g.S.Source.faults c.read_all.new.source; held = g.K.Sink.held c.finish-in-Ok-answer_to.new.sink; write_faults = g.K.Sink.faults c.finish-in-Ok-answer_to.new.sink })
+    c.in-Ok-answer_to.found.status c.as_slice-in-Ok-answer_to.result.now c.finish-in-Ok-answer_to.result
+    (answer_due c.args.words.now (record { left = g.S.Source.left c.args.source.now; read_faults = g.S.Source.faults c.args.source.now; held = g.K.Sink.held c.args.sink.now; write_faults = g.K.Sink.faults c.args.sink.now })
+    (record { left = g.S.Source.left c.read_all.new.source; read_faults = g.S.Source.faults c.read_all.new.source; held = g.K.Sink.held c.finish-in-Ok-answer_to.new.sink; write_faults = g.K.Sink.faults c.finish-in-Ok-answer_to.new.sink })
+    c.in-Some.command c.in-Ok.input c.in-Ok-answer_to.found.status c.as_slice-in-Ok-answer_to.result.now is
+    (record { command = c.in-Some.command; named = named; faults = kept; answer = read_answer c.in-Some.command (g.S.Source.left c.args.source.now) (g.S.Source.left c.read_all.new.source) c.in-Ok.input (answer c.in-Ok-answer_to.found.status c.as_slice-in-Ok-answer_to.result.now) taken end within is })
+    end)
+    c.finish-in-Ok-answer_to.ensures

@@ -1,0 +1,6 @@
+pub mod Counted
+pub mod Inputs
+pub mod ReadSteps
+pub mod Taking
+pub mod Atoms
+pub mod ReadSpelled

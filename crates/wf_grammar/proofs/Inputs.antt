@@ -6,7 +6,8 @@ use Rattle.wf_lex.specs.declared.token.Token.{Token}
 use Rattle.wf_cursor.specs.contracts.piece.Piece.{the_type}
 use Rattle.wf_cursor.specs.declared.piece.Piece.{Piece}
 use Rattle.wf_cursor.specs.Pieces.{same_piece}
-use Rattle.wf_cursor.specs.Input.{Input, Outcome, Parser, and_then, ◌>>=◌, pure, piece, spelling, ahead, next, sees, is_piece}
+use Rattle.wf_cursor.specs.Names.{declared_as}
+use Rattle.wf_cursor.specs.Input.{declared, Input, Outcome, Parser, and_then, ◌>>=◌, pure, piece, spelling, ahead, next, sees, is_piece}
 use Rattle.wf_grammar.specs.Lexemes.{lexeme_of}
 use Rattle.wf_grammar.specs.Phrases.{Is}
 
@@ -29,6 +30,11 @@ spelling_here i t rest at count = refl
 pub next_here : (i : Input) (t : Token) (rest : List Token) (at count : ℕ) → next (here i (t ∷ rest) at count) ≡ here i rest (at + 1) count
 unfolding next
 next_here i t rest at count = refl
+
+-- what the name is declared as
+pub declared_here : (i : Input) (t : Token) (rest : List Token) (at count : ℕ) → declared (here i (t ∷ rest) at count) ≡ declared_as i.names (lexeme_of i.text t).bytes
+unfolding declared
+declared_here i t rest at count = rw (spelling_here i t rest at count) refl
 
 -- a piece is itself, and no other
 pub same_is : (p q : Piece) → same_piece p q ≡ true → p ≡ q

@@ -4,3 +4,9 @@ pub mod ReadSteps
 pub mod Taking
 pub mod Atoms
 pub mod ReadSpelled
+pub mod SpellSteps
+pub mod Reading
+pub mod Follows
+pub mod SpelledAtoms
+pub mod SpelledRead
+pub mod OneReading

@@ -10,14 +10,13 @@ use Rattle.wf_cursor.specs.declared.names.Declared.{Declared}
 use Rattle.wf_cursor.specs.declared.names.Declared.TheVariants as declared_as_a
 use Rattle.wf_cursor.specs.declared.piece.Piece.{Piece}
 use Rattle.wf_cursor.specs.declared.piece.Piece.TheVariants as pieces
-use Rattle.wf_cursor.specs.Names.{declared_as}
 use Rattle.wf_cursor.specs.Values.{number_up_to, short_text}
 use Rattle.wf_cursor.specs.Input as input
 use Rattle.wf_cursor.specs.Input.{Input, Outcome, Parser, and_then, ◌>>=◌, ◌>>◌, pure, take, syntax, oversize, unknown_name, piece, spelling, next, sees, node, expect, declared, name_ahead, int_up_to, int_by, text_by, variable_by, state_by, activity_by}
 use Rattle.wf_phrase.specs.Expressions.{open_paren, activity_inside}
 use Rattle.wf_grammar.specs.Lexemes.{lexeme_of}
 use Rattle.wf_grammar.specs.Phrases.{Is, IsNameOf}
-use Rattle.wf_grammar.proofs.Inputs.{here, spelling_here, next_here, Seen, seen_here, less_is, fits_is, then_assoc}
+use Rattle.wf_grammar.proofs.Inputs.{declared_here, here, spelling_here, next_here, Seen, seen_here, less_is, fits_is, then_assoc}
 
 -- a test that was passed
 pub passed : {A B : Type 0} (b : Bool) (ok err : Outcome A) (f : A → Parser B) (y : B) (j : Input) → ((g : A → Parser B) (z : B) (k : Input) → and_then err g ≡ Ok (z, k) → ⊥) → and_then (if b then ok else err) f ≡ Ok (y, j) → (b ≡ true) × (and_then ok f ≡ Ok (y, j))
@@ -103,11 +102,6 @@ name_then i left at count f y j h =
       is_short = fits_is (length (lexeme_of i.text s.token).bytes) MAX_NAME (rw (spelling_here i s.token s.rest at count) at short);
       goes_on = h';
     }
-
--- what the name is declared as
-declared_here : (i : Input) (t : Token) (rest : List Token) (at count : ℕ) → declared (here i (t ∷ rest) at count) ≡ declared_as i.names (lexeme_of i.text t).bytes
-unfolding declared
-declared_here i t rest at count = rw (spelling_here i t rest at count) refl
 
 -- what is made of the declaration answers for this kind of name alone
 abbrev Inverts : {A B : Type 0} → (A → Declared) → (Option Declared → Parser A) → (A → Parser B) → B → Input → Type 0

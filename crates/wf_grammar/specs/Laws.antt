@@ -1,9 +1,11 @@
 -- The reader of expressions and the grammar say the same.
-use Rattle.std.specs.Prelude.{◌≡◌, ◌≤◌, ◌+◌, ℕ, List, ◌++◌, length, drop, Ok}
+use Rattle.std.specs.Prelude.{◌≡◌, ◌≤◌, ◌+◌, ℕ, List, [], ◌∷◌, ◌++◌, length, drop, Option, Some, None, Ok}
 use Rattle.wf_model.specs.declared.limits.TheConstants.{MAX_NODES, MAX_OPEN}
 use Rattle.wf_model.specs.declared.expr.Expr.{Expr}
 use Rattle.wf_model.specs.Accepted.{nodes}
+use Rattle.wf_cursor.specs.declared.piece.Piece.{Piece}
 use Rattle.wf_cursor.specs.Input.{Input}
+use Rattle.wf_phrase.specs.Operators.{or_operator, and_operator, comparison, sum_operator, product_operator}
 use Rattle.wf_phrase.specs.Expressions.{expr}
 use Rattle.wf_grammar.specs.Lexemes.{Lexeme, lexemes}
 use Rattle.wf_grammar.specs.Phrases.{Rank, Spells}
@@ -21,3 +23,31 @@ ReadIsSpelled =
     × (nodes x ≤ MAX_NODES)
     × (lexemes i ≡ ws ++ lexemes j)
     × (j ≡ behind (length ws) (nodes x) i)
+
+abbrev pub first_piece : List Lexeme → Option Piece
+first_piece [] = None
+first_piece (w ∷ ws) = Some w.piece
+
+-- no expression goes on with this piece
+pub record IsNoOperator (p : Option Piece) : Type 0 where
+  pub no_or : or_operator p ≡ None
+  pub no_and : and_operator p ≡ None
+  pub no_comparison : comparison p ≡ None
+  pub no_sum : sum_operator p ≡ None
+  pub no_product : product_operator p ≡ None
+
+-- what a front part of the lexemes spells within the limits is read, where no operator follows
+abbrev pub SpelledIsRead : Type 0
+SpelledIsRead =
+    (i : Input) (ws more : List Lexeme) (x : Expr) →
+    Spells i.names MAX_OPEN Rank.expr ws x → nodes x ≤ MAX_NODES →
+    lexemes i ≡ ws ++ more → IsNoOperator (first_piece more) →
+    expr i ≡ Ok (x, behind (length ws) (nodes x) i)
+
+-- lexemes of a text spell at most one expression
+abbrev pub SpellsOne : Type 0
+SpellsOne =
+    (i : Input) (ws more : List Lexeme) (x y : Expr) → lexemes i ≡ ws ++ more →
+    Spells i.names MAX_OPEN Rank.expr ws x → nodes x ≤ MAX_NODES →
+    Spells i.names MAX_OPEN Rank.expr ws y → nodes y ≤ MAX_NODES →
+    x ≡ y

@@ -5,6 +5,7 @@ use Rattle.wf_cursor.specs.declared.piece.Piece.{Piece}
 use Rattle.wf_cursor.specs.declared.piece.Piece.TheVariants as pieces
 use Rattle.wf_phrase.specs.Operators.{or_operator, and_operator, comparison, sum_operator, product_operator}
 use Rattle.wf_grammar.specs.Laws.{IsNoOperator}
+use Rattle.wf_grammar.proofs.Tables.{no_or, no_and, no_comparison, no_sum, no_product}
 use Rattle.wf_grammar.proofs.Reading.{Follow}
 
 abbrev pub Anything : Follow
@@ -58,4 +59,4 @@ unfolding or_operator and_operator comparison sum_operator product_operator
 close_ends p is = rw is (((((tt, refl), refl), refl), refl), refl)
 
 pub no_operator_ends : (p : Option Piece) → IsNoOperator p → EndsExpr p
-no_operator_ends p none = (((((tt, none.no_product), none.no_sum), none.no_comparison), none.no_and), none.no_or)
+no_operator_ends p none = (((((tt, no_product p none), no_sum p none), no_comparison p none), no_and p none), no_or p none)

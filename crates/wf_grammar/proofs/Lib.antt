@@ -2,6 +2,7 @@ pub mod Counted
 pub mod Inputs
 pub mod ReadSteps
 pub mod Taking
+pub mod Tables
 pub mod Atoms
 pub mod ReadSpelled
 pub mod SpellSteps

@@ -1,10 +1,9 @@
 -- Lexemes of a text spell at most one expression: the reader answers it, where nothing follows.
-use Rattle.std.proofs.Common.{◌≡◌, ◌≤◌, List, [], None, Ok, refl, ◌∙◌, sym, append-nil, length}
+use Rattle.std.proofs.Common.{◌≡◌, ◌≤◌, List, [], None, Ok, ◌∙◌, sym, append-nil, length}
 use Rattle.wf_model.specs.declared.limits.TheConstants.{MAX_NODES, MAX_OPEN}
 use Rattle.wf_model.specs.declared.expr.Expr.{Expr}
 use Rattle.wf_model.specs.Accepted.{nodes}
 use Rattle.wf_cursor.specs.Input.{Input, Outcome}
-use Rattle.wf_phrase.specs.Operators.{or_operator, and_operator, comparison, sum_operator, product_operator}
 use Rattle.wf_phrase.specs.Expressions.{expr}
 use Rattle.wf_grammar.specs.Lexemes.{Lexeme, lexeme_of, lexemes}
 use Rattle.wf_grammar.specs.Phrases.{Rank, Spells}
@@ -15,8 +14,7 @@ use Rattle.wf_grammar.proofs.SpelledRead.{spelled_is_read}
 
 -- nothing is no operator
 nothing : IsNoOperator None
-unfolding or_operator and_operator comparison sum_operator product_operator
-nothing = record { no_or = refl; no_and = refl; no_comparison = refl; no_sum = refl; no_product = refl }
+nothing o h = cc
 
 -- a whole input that is spelled is read
 whole_read : (i : Input) (ws : List Lexeme) (x : Expr) → Spells i.names MAX_OPEN Rank.expr ws x → nodes x ≤ MAX_NODES → lexemes i ≡ ws

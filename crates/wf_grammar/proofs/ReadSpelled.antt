@@ -19,6 +19,7 @@ use Rattle.wf_grammar.proofs.Counted.{nodes-Not, nodes-Neg}
 use Rattle.wf_grammar.proofs.Inputs.{here, piece_here, piece_none, next_here, sees_piece, steps_of, pure_gives}
 use Rattle.wf_grammar.proofs.ReadSteps.{expect_then}
 use Rattle.wf_grammar.proofs.Taking.{Phrase, Took, IsSound, weaker, prefixed, stops, turn, followed, chained}
+use Rattle.wf_grammar.proofs.Tables.{or_has_sign, and_has_sign, comparison_has_sign, sum_has_sign, product_has_sign}
 use Rattle.wf_grammar.proofs.Atoms.{NestedIsSound, atom_sound}
 
 -- what is seen is next
@@ -57,18 +58,18 @@ module _ (i : Input) (depth : ℕ) (nested : Parser Expr) (sound : NestedIsSound
   prod_sound : IsSound i (Of Rank.prod) (prod depth nested)
   unfolding prod product_operator
   prod_sound = chained i (Of Rank.unary) (Of Rank.prod) product_operator (unary depth nested) (λ ws x s. phrase.prod_unary s)
-      (λ us vs w op x y s is r. phrase.prod_more w op s is r) refl unary_sound
+      (λ us vs w op x y s is r. let o = product_has_sign w.piece op is in phrase.prod_more w op s o.0 o.1 r) refl unary_sound
 
   sum_sound : IsSound i (Of Rank.sum) (sum depth nested)
   unfolding sum sum_operator
   sum_sound = chained i (Of Rank.prod) (Of Rank.sum) sum_operator (prod depth nested) (λ ws x s. phrase.sum_prod s)
-      (λ us vs w op x y s is r. phrase.sum_more w op s is r) refl prod_sound
+      (λ us vs w op x y s is r. let o = sum_has_sign w.piece op is in phrase.sum_more w op s o.0 o.1 r) refl prod_sound
 
   comp_sound : IsSound i (Of Rank.comp) (comp depth nested)
   unfolding comp comparison
   comp_sound = followed i (Of Rank.sum) (Of Rank.comp) (sum depth nested) (λ l k. chain_by (sum depth nested) pure l (comparison (piece k)) k) sum_sound
       (turn i (Of Rank.sum) (Of Rank.sum) (Of Rank.comp) comparison (sum depth nested) pure (λ ws x s. phrase.comp_sum s)
-      (λ us vs w op x y s is r. phrase.comp_both w op s is r) refl sum_sound (stops i (Of Rank.comp)))
+      (λ us vs w op x y s is r. let o = comparison_has_sign w.piece op is in phrase.comp_both w op s o.0 o.1 r) refl sum_sound (stops i (Of Rank.comp)))
 
   neg_from_sound : (n : ℕ) → IsSound i (Of Rank.neg) (neg_from depth nested n)
   unfolding neg_from
@@ -93,12 +94,12 @@ module _ (i : Input) (depth : ℕ) (nested : Parser Expr) (sound : NestedIsSound
   conj_sound : IsSound i (Of Rank.conj) (conj depth nested)
   unfolding conj and_operator
   conj_sound = chained i (Of Rank.neg) (Of Rank.conj) and_operator (neg depth nested) (λ ws x s. phrase.conj_neg s)
-      (λ us vs w op x y s is r. phrase.conj_and w op s is r) refl neg_sound
+      (λ us vs w op x y s is r. let o = and_has_sign w.piece op is in phrase.conj_and w op s o.0 o.1 r) refl neg_sound
 
   disj_sound : IsSound i (Of Rank.expr) (disj depth nested)
   unfolding disj or_operator
   disj_sound = chained i (Of Rank.conj) (Of Rank.expr) or_operator (conj depth nested) (λ ws x s. phrase.expr_conj s)
-      (λ us vs w op x y s is r. phrase.expr_or w op s is r) refl conj_sound
+      (λ us vs w op x y s is r. let o = or_has_sign w.piece op is in phrase.expr_or w op s o.0 o.1 r) refl conj_sound
 
 -- what stands between parentheses, with them
 closed : (i : Input) (depth : ℕ) (opens : Token) (rest : List Token) (at count : ℕ) (x y : Expr) (k j : Input) → Is pieces.OpenParen (lexeme_of i.text opens)

@@ -21,6 +21,7 @@ use Rattle.wf_grammar.specs.Laws.{first_piece, IsNoOperator, SpelledIsRead}
 use Rattle.wf_grammar.proofs.Counted.{nodes-Not, nodes-Neg, nodes-Bin}
 use Rattle.wf_grammar.proofs.Inputs.{here, piece_here, next_here, sees_piece}
 use Rattle.wf_grammar.proofs.SpellSteps.{sees_here, expect_here, piece_first, parted, headed, emptied}
+use Rattle.wf_grammar.proofs.Tables.{or_found, and_found, comparison_found, sum_found, product_found}
 use Rattle.wf_grammar.proofs.Reading.{ReadsAs, prefix_reads, turn_reads, ReadsOn, chain_begins, chain_goes_on, chain_reads}
 use Rattle.wf_grammar.proofs.Follows.{Anything, EndsProd, EndsSum, EndsComp, EndsConj, EndsExpr, sum_ends, comparison_ends, and_ends, or_ends, close_ends, no_operator_ends}
 use Rattle.wf_grammar.proofs.SpelledAtoms.{true_reads, false_reads, int_reads, text_reads, variable_reads, state_reads, count_reads, done_reads}
@@ -169,22 +170,22 @@ module _ (i : Input) where
 
   spelled_reads : {depth : ℕ} {rank : Rank} {ws : List Lexeme} {x : Expr} → Spells i.names depth rank ws x → Reads depth rank ws x
   spelled_reads (phrase.expr_conj {depth = d} {ws = ws} {x = x} s) = chain_begins i EndsConj or_operator (conj d (parens d)) ws x (whole_conj d ws x (spelled_reads s))
-  spelled_reads (phrase.expr_or {depth = d} {us = us} {vs = vs} {x = x} {y = y} w op s is r) =
-      chain_goes_on i EndsConj or_operator (conj d (parens d)) us vs w op x y (spelled_reads s) is (or_ends w.piece op is) (whole_conj d vs y (spelled_reads r))
+  spelled_reads (phrase.expr_or {depth = d} {us = us} {vs = vs} {x = x} {y = y} w op s line sign r) =
+      chain_goes_on i EndsConj or_operator (conj d (parens d)) us vs w op x y (spelled_reads s) (or_found w.piece op line sign) (or_ends w.piece op (or_found w.piece op line sign)) (whole_conj d vs y (spelled_reads r))
   spelled_reads (phrase.conj_neg {depth = d} {ws = ws} {x = x} s) = chain_begins i EndsComp and_operator (neg d (parens d)) ws x (spelled_reads s)
-  spelled_reads (phrase.conj_and {depth = d} {us = us} {vs = vs} {x = x} {y = y} w op s is r) =
-      chain_goes_on i EndsComp and_operator (neg d (parens d)) us vs w op x y (spelled_reads s) is (and_ends w.piece op is) (spelled_reads r)
+  spelled_reads (phrase.conj_and {depth = d} {us = us} {vs = vs} {x = x} {y = y} w op s line sign r) =
+      chain_goes_on i EndsComp and_operator (neg d (parens d)) us vs w op x y (spelled_reads s) (and_found w.piece op line sign) (and_ends w.piece op (and_found w.piece op line sign)) (spelled_reads r)
   spelled_reads (phrase.neg_comp {depth = d} {ws = ws} {x = x} s) = comp_is_neg i d (parens d) ws x (spelled_reads s)
   spelled_reads (phrase.neg_not {depth = d} {ws = ws} {x = x} w is s) = not_reads i d (parens d) w ws x is (spelled_reads s)
   spelled_reads (phrase.comp_sum {depth = d} {ws = ws} {x = x} s) = sum_is_comp i d (parens d) ws x (whole_sum d ws x (spelled_reads s))
-  spelled_reads (phrase.comp_both {depth = d} {us = us} {vs = vs} {x = x} {y = y} w op s is r) =
-      compared i d (parens d) us vs w op x y (whole_sum d us x (spelled_reads s)) is (whole_sum d vs y (spelled_reads r))
+  spelled_reads (phrase.comp_both {depth = d} {us = us} {vs = vs} {x = x} {y = y} w op s line sign r) =
+      compared i d (parens d) us vs w op x y (whole_sum d us x (spelled_reads s)) (comparison_found w.piece op line sign) (whole_sum d vs y (spelled_reads r))
   spelled_reads (phrase.sum_prod {depth = d} {ws = ws} {x = x} s) = chain_begins i EndsProd sum_operator (prod d (parens d)) ws x (whole_prod d ws x (spelled_reads s))
-  spelled_reads (phrase.sum_more {depth = d} {us = us} {vs = vs} {x = x} {y = y} w op s is r) =
-      chain_goes_on i EndsProd sum_operator (prod d (parens d)) us vs w op x y (spelled_reads s) is (sum_ends w.piece op is) (whole_prod d vs y (spelled_reads r))
+  spelled_reads (phrase.sum_more {depth = d} {us = us} {vs = vs} {x = x} {y = y} w op s line sign r) =
+      chain_goes_on i EndsProd sum_operator (prod d (parens d)) us vs w op x y (spelled_reads s) (sum_found w.piece op line sign) (sum_ends w.piece op (sum_found w.piece op line sign)) (whole_prod d vs y (spelled_reads r))
   spelled_reads (phrase.prod_unary {depth = d} {ws = ws} {x = x} s) = chain_begins i Anything product_operator (unary d (parens d)) ws x (spelled_reads s)
-  spelled_reads (phrase.prod_more {depth = d} {us = us} {vs = vs} {x = x} {y = y} w op s is r) =
-      chain_goes_on i Anything product_operator (unary d (parens d)) us vs w op x y (spelled_reads s) is tt (spelled_reads r)
+  spelled_reads (phrase.prod_more {depth = d} {us = us} {vs = vs} {x = x} {y = y} w op s line sign r) =
+      chain_goes_on i Anything product_operator (unary d (parens d)) us vs w op x y (spelled_reads s) (product_found w.piece op line sign) tt (spelled_reads r)
   spelled_reads (phrase.unary_atom {depth = d} {ws = ws} {x = x} s) = atom_is_unary i d (parens d) ws x (spelled_reads s)
   spelled_reads (phrase.unary_minus {depth = d} {ws = ws} {x = x} w is s) = minus_reads i d (parens d) w ws x is (spelled_reads s)
   spelled_reads (phrase.atom_true {depth = d} w is) = true_reads i d (parens d) w is

@@ -1,14 +1,14 @@
 -- The reader of expressions and the grammar say the same.
-use Rattle.std.specs.Prelude.{◌≡◌, ◌≤◌, ◌+◌, ℕ, List, [], ◌∷◌, ◌++◌, length, drop, Option, Some, None, Ok}
+use Rattle.std.specs.Prelude.{◌≡◌, ◌≢◌, ◌≤◌, ◌+◌, ℕ, List, [], ◌∷◌, ◌++◌, length, drop, Option, Some, None, Ok}
 use Rattle.wf_model.specs.declared.limits.TheConstants.{MAX_NODES, MAX_OPEN}
+use Rattle.wf_model.specs.declared.expr.Op.{Op}
 use Rattle.wf_model.specs.declared.expr.Expr.{Expr}
 use Rattle.wf_model.specs.Accepted.{nodes}
 use Rattle.wf_cursor.specs.declared.piece.Piece.{Piece}
 use Rattle.wf_cursor.specs.Input.{Input}
-use Rattle.wf_phrase.specs.Operators.{or_operator, and_operator, comparison, sum_operator, product_operator}
 use Rattle.wf_phrase.specs.Expressions.{expr}
 use Rattle.wf_grammar.specs.Lexemes.{Lexeme, lexemes}
-use Rattle.wf_grammar.specs.Phrases.{Rank, Spells}
+use Rattle.wf_grammar.specs.Phrases.{Rank, sign_of, Spells}
 
 -- the input behind so many tokens, with so many nodes counted, and else the same
 abbrev pub behind : (tokens count : ℕ) → Input → Input
@@ -28,13 +28,9 @@ abbrev pub first_piece : List Lexeme → Option Piece
 first_piece [] = None
 first_piece (w ∷ ws) = Some w.piece
 
--- no expression goes on with this piece
-pub record IsNoOperator (p : Option Piece) : Type 0 where
-  pub no_or : or_operator p ≡ None
-  pub no_and : and_operator p ≡ None
-  pub no_comparison : comparison p ≡ None
-  pub no_sum : sum_operator p ≡ None
-  pub no_product : product_operator p ≡ None
+-- this is no operator's sign
+abbrev pub IsNoOperator : Option Piece → Type 0
+IsNoOperator p = (o : Op) → p ≢ Some (sign_of o)
 
 -- what a front part of the lexemes spells within the limits is read, where no operator follows
 abbrev pub SpelledIsRead : Type 0

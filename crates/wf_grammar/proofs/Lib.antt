@@ -1,0 +1,13 @@
+pub mod Counted
+pub mod Inputs
+pub mod ReadSteps
+pub mod Taking
+pub mod Tables
+pub mod Atoms
+pub mod ReadSpelled
+pub mod SpellSteps
+pub mod Reading
+pub mod Follows
+pub mod SpelledAtoms
+pub mod SpelledRead
+pub mod OneReading

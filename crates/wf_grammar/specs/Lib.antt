@@ -1,0 +1,3 @@
+pub mod Lexemes
+pub mod Phrases
+pub mod Laws

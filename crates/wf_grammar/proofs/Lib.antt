@@ -1,5 +1,6 @@
 pub mod Counted
 pub mod Inputs
+pub mod Splits
 pub mod ReadSteps
 pub mod Taking
 pub mod Tables

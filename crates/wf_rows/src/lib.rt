@@ -15,3 +15,5 @@ mod printed;
 mod rows;
 #[cfg(test)]
 mod run;
+#[cfg(test)]
+mod types;

@@ -13,7 +13,8 @@ fn printed(alloc: Global, text: &str) -> Result<Bytes, Fail> {
     Ok(print_chart(alloc, &checked)?)
 }
 
-const CANONICAL: &str = "chart m;
+/// A chart with all kinds of parts, as it is printed.
+pub const CANONICAL: &str = "chart m;
 unit a;
 unit b;
 event e at a;

@@ -11,3 +11,5 @@ pub mod Follows
 pub mod SpelledAtoms
 pub mod SpelledRead
 pub mod OneReading
+pub mod Places
+pub mod Declared

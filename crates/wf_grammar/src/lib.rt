@@ -1,7 +1,9 @@
-//! The grammar of expressions as a relation, and that the reader of expressions says the same. Each public function is a law
-//! and has nothing to do.
+//! The grammar of expressions and of charts as relations, and that the readers say the same. Each public function is a law and
+//! has nothing to do.
 #![tactic(auto)]
 
+mod chart_laws;
 mod laws;
 
+pub use chart_laws::declarations_read_are_spelled;
 pub use laws::{read_is_spelled, spelled_is_read, spells_one};

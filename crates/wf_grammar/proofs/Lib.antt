@@ -13,3 +13,5 @@ pub mod SpelledRead
 pub mod OneReading
 pub mod Places
 pub mod Declared
+pub mod Moved
+pub mod Drawn

@@ -1,10 +1,20 @@
 -- The reader of charts and their grammar say the same.
-use Rattle.std.specs.Prelude.{◌≡◌, List, ◌++◌, Ok}
+use Rattle.std.specs.Prelude.{◌≡◌, ℕ, List, map, ◌++◌, Ok}
+use Rattle.wf_model.specs.declared.chart.Transition.{Transition}
+use Rattle.wf_model.specs.declared.chart.Chart.{Chart}
+use Rattle.wf_lex.specs.declared.token.Token.{Token}
+use Rattle.wf_lex.specs.Lex.{tokens_of}
 use Rattle.wf_cursor.specs.Input.{Input}
 use Rattle.wf_text.specs.Declarations.{declarations}
-use Rattle.wf_grammar.specs.Lexemes.{Lexeme, lexemes}
+use Rattle.wf_text.specs.States.{root}
+use Rattle.wf_text.specs.Transitions.{transitions}
+use Rattle.wf_text.specs.Text.{chart_of}
+use Rattle.wf_grammar.specs.Lexemes.{Lexeme, lexeme_of, lexemes}
 use Rattle.wf_grammar.specs.Scopes.{Scope}
 use Rattle.wf_grammar.specs.Declaring.{Declarations}
+use Rattle.wf_grammar.specs.Drawing.{Root}
+use Rattle.wf_grammar.specs.Moving.{Transitions}
+use Rattle.wf_grammar.specs.Charts.{IsChart}
 
 -- what an input has declared
 abbrev pub scope_of : Input → Scope
@@ -15,3 +25,21 @@ abbrev pub DeclarationsReadAreSpelled : Type 0
 DeclarationsReadAreSpelled =
     (i j : Input) → declarations i ≡ Ok (tt, j) →
     (ws : List Lexeme) × Declarations (scope_of i) ws (scope_of j) × (lexemes i ≡ ws ++ lexemes j) × (j.text ≡ i.text)
+
+-- so is the root that is read, if there is one
+abbrev pub RootReadIsSpelled : Type 0
+RootReadIsSpelled =
+    (i j : Input) → root i ≡ Ok (tt, j) →
+    (ws : List Lexeme) × Root (scope_of i) ws (scope_of j) × (lexemes i ≡ ws ++ lexemes j) × (j.text ≡ i.text)
+
+-- and so are the transitions that are read
+abbrev pub TransitionsReadAreSpelled : Type 0
+TransitionsReadAreSpelled =
+    (i j : Input) (found : List Transition) → transitions i ≡ Ok (found, j) →
+    (ws : List Lexeme) × Transitions i.names ws found × (lexemes i ≡ ws ++ lexemes j) × (scope_of j ≡ scope_of i) × (j.text ≡ i.text)
+
+-- a text that means a chart has tokens, and they are a text of this chart
+abbrev pub ChartReadIsSpelled : Type 0
+ChartReadIsSpelled =
+    (text : List ℕ) (chart : Chart) → chart_of text ≡ Ok chart →
+    (tokens : List Token) × (tokens_of text ≡ Ok tokens) × IsChart (map (lexeme_of text) tokens) chart

@@ -3,4 +3,7 @@ pub mod Phrases
 pub mod Laws
 pub mod Scopes
 pub mod Declaring
+pub mod Drawing
+pub mod Moving
+pub mod Charts
 pub mod ChartLaws

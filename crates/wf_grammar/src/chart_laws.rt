@@ -1,8 +1,20 @@
 //! Laws of the reader of charts: it reads what the grammar spells, and nothing else.
-ghost use Rattle.wf_grammar.specs.ChartLaws.{DeclarationsReadAreSpelled};
+ghost use Rattle.wf_grammar.specs.ChartLaws.{DeclarationsReadAreSpelled, RootReadIsSpelled, TransitionsReadAreSpelled};
 
-/// Where declarations are read, the grammar has them at the front of the lexemes, and the input is then behind them, with what
-/// they declare.
+/// Where declarations are read, a front part of the lexemes is declarations by the grammar. The input is then behind them, with
+/// what they declare.
 pub fn declarations_read_are_spelled()
     ensures { DeclarationsReadAreSpelled }
+{}
+
+/// Where a root is read, or none, a front part of the lexemes is a state by the grammar, or nothing. The input is then behind it,
+/// with the states that it declares.
+pub fn root_read_is_spelled()
+    ensures { RootReadIsSpelled }
+{}
+
+/// Where transitions are read, a front part of the lexemes is these transitions by the grammar. The input is then behind them,
+/// and nothing more is declared.
+pub fn transitions_read_are_spelled()
+    ensures { TransitionsReadAreSpelled }
 {}

@@ -15,3 +15,4 @@ pub mod Places
 pub mod Declared
 pub mod Moved
 pub mod Drawn
+pub mod ChartRead

@@ -1,5 +1,5 @@
 //! Laws of the reader of charts: it reads what the grammar spells, and nothing else.
-ghost use Rattle.wf_grammar.specs.ChartLaws.{DeclarationsReadAreSpelled, RootReadIsSpelled, TransitionsReadAreSpelled};
+ghost use Rattle.wf_grammar.specs.ChartLaws.{ChartReadIsSpelled, DeclarationsReadAreSpelled, RootReadIsSpelled, TransitionsReadAreSpelled};
 
 /// Where declarations are read, a front part of the lexemes is declarations by the grammar. The input is then behind them, with
 /// what they declare.
@@ -17,4 +17,9 @@ pub fn root_read_is_spelled()
 /// and nothing more is declared.
 pub fn transitions_read_are_spelled()
     ensures { TransitionsReadAreSpelled }
+{}
+
+/// A text that means a chart has tokens, and by the grammar they are a text of this chart.
+pub fn chart_read_is_spelled()
+    ensures { ChartReadIsSpelled }
 {}

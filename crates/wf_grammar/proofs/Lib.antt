@@ -16,3 +16,5 @@ pub mod Declared
 pub mod Moved
 pub mod Drawn
 pub mod ChartRead
+pub mod Giving
+pub mod DeclaredReads

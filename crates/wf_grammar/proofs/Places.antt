@@ -202,7 +202,7 @@ new_inverts : {B : Type 0} (what : Declared) (before : Option Declared) (k : Inp
 new_inverts what None k f y j h = (refl, h)
 new_inverts what (Some d) k f y j h = cc
 
-with_name_here : (text : List ℕ) (s : Scope) (what : Declared) (t : Token) (rest : List Token) (at count : ℕ)
+pub with_name_here : (text : List ℕ) (s : Scope) (what : Declared) (t : Token) (rest : List Token) (at count : ℕ)
     → with_name what (here (within text s) (t ∷ rest) at count) ≡ here (within text (named (lexeme_of text t) what s)) (t ∷ rest) at count
 unfolding with_name
 with_name_here text s what t rest at count = rw (spelling_here (within text s) t rest at count) refl

@@ -1,15 +1,18 @@
 -- The reader of charts and their grammar say the same.
-use Rattle.std.specs.Prelude.{◌≡◌, ℕ, List, map, ◌++◌, Ok}
+use Rattle.std.specs.Prelude.{◌≡◌, ◌≢◌, ℕ, List, map, ◌++◌, Option, Some, Ok}
 use Rattle.wf_model.specs.declared.chart.Transition.{Transition}
 use Rattle.wf_model.specs.declared.chart.Chart.{Chart}
 use Rattle.wf_lex.specs.declared.token.Token.{Token}
 use Rattle.wf_lex.specs.Lex.{tokens_of}
-use Rattle.wf_cursor.specs.Input.{Input}
+use Rattle.wf_cursor.specs.declared.piece.Piece.{Piece}
+use Rattle.wf_cursor.specs.declared.piece.Piece.TheVariants as pieces
+use Rattle.wf_cursor.specs.Input.{Input, Outcome}
 use Rattle.wf_text.specs.Declarations.{declarations}
 use Rattle.wf_text.specs.States.{root}
 use Rattle.wf_text.specs.Transitions.{transitions}
 use Rattle.wf_text.specs.Text.{chart_of}
 use Rattle.wf_grammar.specs.Lexemes.{Lexeme, lexeme_of, lexemes}
+use Rattle.wf_grammar.specs.Laws.{first_piece}
 use Rattle.wf_grammar.specs.Scopes.{Scope}
 use Rattle.wf_grammar.specs.Declaring.{Declarations}
 use Rattle.wf_grammar.specs.Drawing.{Root}
@@ -43,3 +46,23 @@ abbrev pub ChartReadIsSpelled : Type 0
 ChartReadIsSpelled =
     (text : List ℕ) (chart : Chart) → chart_of text ≡ Ok chart →
     (tokens : List Token) × (tokens_of text ≡ Ok tokens) × IsChart (map (lexeme_of text) tokens) chart
+
+-- ---- and the other way round
+
+-- no declaration begins with this
+abbrev pub BeginsNoDeclaration : Option Piece → Type 0
+BeginsNoDeclaration p = (p ≢ Some pieces.Unit) × (p ≢ Some pieces.Event) × (p ≢ Some pieces.Var) × (p ≢ Some pieces.Activity)
+
+-- a rule is done behind a front part of the lexemes, with this declared and these left
+pub record EndsWith (r : Outcome (Unit {0})) (text : List ℕ) (s : Scope) (more : List Lexeme) : Type 0 where
+  pub end : Input
+  pub is_read : r ≡ Ok (tt, end)
+  pub same_text : end.text ≡ text
+  pub declares : scope_of end ≡ s
+  pub left : lexemes end ≡ more
+
+-- declarations at the front of the lexemes are read, where none follows
+abbrev pub DeclarationsSpelledAreRead : Type 0
+DeclarationsSpelledAreRead =
+    (i : Input) (s : Scope) (ws more : List Lexeme) → Declarations (scope_of i) ws s → lexemes i ≡ ws ++ more → BeginsNoDeclaration (first_piece more) →
+    EndsWith (declarations i) i.text s more

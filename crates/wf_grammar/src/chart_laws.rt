@@ -1,5 +1,5 @@
 //! Laws of the reader of charts: it reads what the grammar spells, and nothing else.
-ghost use Rattle.wf_grammar.specs.ChartLaws.{ChartReadIsSpelled, DeclarationsReadAreSpelled, RootReadIsSpelled, TransitionsReadAreSpelled};
+ghost use Rattle.wf_grammar.specs.ChartLaws.{ChartReadIsSpelled, DeclarationsReadAreSpelled, DeclarationsSpelledAreRead, RootReadIsSpelled, TransitionsReadAreSpelled};
 
 /// Where declarations are read, a front part of the lexemes is declarations by the grammar. The input is then behind them, with
 /// what they declare.
@@ -22,4 +22,10 @@ pub fn transitions_read_are_spelled()
 /// A text that means a chart has tokens, and by the grammar they are a text of this chart.
 pub fn chart_read_is_spelled()
     ensures { ChartReadIsSpelled }
+{}
+
+/// Declarations of the grammar at the front of the lexemes are read, where no declaration follows. The input is then behind them,
+/// with what they declare.
+pub fn declarations_spelled_are_read()
+    ensures { DeclarationsSpelledAreRead }
 {}

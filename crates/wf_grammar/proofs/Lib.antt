@@ -18,3 +18,4 @@ pub mod Drawn
 pub mod ChartRead
 pub mod Giving
 pub mod DeclaredReads
+pub mod MovedReads

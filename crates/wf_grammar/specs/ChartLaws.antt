@@ -53,10 +53,14 @@ ChartReadIsSpelled =
 abbrev pub BeginsNoDeclaration : Option Piece → Type 0
 BeginsNoDeclaration p = (p ≢ Some pieces.Unit) × (p ≢ Some pieces.Event) × (p ≢ Some pieces.Var) × (p ≢ Some pieces.Activity)
 
--- a rule is done behind a front part of the lexemes, with this declared and these left
-pub record EndsWith (r : Outcome (Unit {0})) (text : List ℕ) (s : Scope) (more : List Lexeme) : Type 0 where
+-- no state begins with this
+abbrev pub BeginsNoState : Option Piece → Type 0
+BeginsNoState p = (p ≢ Some pieces.Basic) × (p ≢ Some pieces.Or) × (p ≢ Some pieces.And)
+
+-- a rule answers this value, and then this is declared and these lexemes are left
+pub record EndsWith {A : Type 0} (r : Outcome A) (x : A) (text : List ℕ) (s : Scope) (more : List Lexeme) : Type 0 where
   pub end : Input
-  pub is_read : r ≡ Ok (tt, end)
+  pub is_read : r ≡ Ok (x, end)
   pub same_text : end.text ≡ text
   pub declares : scope_of end ≡ s
   pub left : lexemes end ≡ more
@@ -65,4 +69,28 @@ pub record EndsWith (r : Outcome (Unit {0})) (text : List ℕ) (s : Scope) (more
 abbrev pub DeclarationsSpelledAreRead : Type 0
 DeclarationsSpelledAreRead =
     (i : Input) (s : Scope) (ws more : List Lexeme) → Declarations (scope_of i) ws s → lexemes i ≡ ws ++ more → BeginsNoDeclaration (first_piece more) →
-    EndsWith (declarations i) i.text s more
+    EndsWith (declarations i) tt i.text s more
+
+-- so is a root, or none, where no state follows
+abbrev pub RootSpelledIsRead : Type 0
+RootSpelledIsRead =
+    (i : Input) (s : Scope) (ws more : List Lexeme) → Root (scope_of i) ws s → lexemes i ≡ ws ++ more → BeginsNoState (first_piece more) →
+    EndsWith (root i) tt i.text s more
+
+-- and so are transitions, where none follows
+abbrev pub TransitionsSpelledAreRead : Type 0
+TransitionsSpelledAreRead =
+    (i : Input) (found : List Transition) (ws more : List Lexeme) → Transitions i.names ws found → lexemes i ≡ ws ++ more → first_piece more ≢ Some pieces.From →
+    EndsWith (transitions i) found i.text (scope_of i) more
+
+-- tokens that are a text of a chart mean this chart
+abbrev pub ChartSpelledIsRead : Type 0
+ChartSpelledIsRead =
+    (text : List ℕ) (tokens : List Token) (chart : Chart) → tokens_of text ≡ Ok tokens → IsChart (map (lexeme_of text) tokens) chart →
+    chart_of text ≡ Ok chart
+
+-- so tokens are a text of at most one chart
+abbrev pub SpellsOneChart : Type 0
+SpellsOneChart =
+    (text : List ℕ) (tokens : List Token) (chart other : Chart) → tokens_of text ≡ Ok tokens →
+    IsChart (map (lexeme_of text) tokens) chart → IsChart (map (lexeme_of text) tokens) other → chart ≡ other

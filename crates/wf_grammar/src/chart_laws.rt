@@ -1,5 +1,5 @@
 //! Laws of the reader of charts: it reads what the grammar spells, and nothing else.
-ghost use Rattle.wf_grammar.specs.ChartLaws.{ChartReadIsSpelled, DeclarationsReadAreSpelled, DeclarationsSpelledAreRead, RootReadIsSpelled, TransitionsReadAreSpelled};
+ghost use Rattle.wf_grammar.specs.ChartLaws.{ChartReadIsSpelled, DeclarationsReadAreSpelled, DeclarationsSpelledAreRead, RootReadIsSpelled, TransitionsReadAreSpelled, TransitionsSpelledAreRead};
 
 /// Where declarations are read, a front part of the lexemes is declarations by the grammar. The input is then behind them, with
 /// what they declare.
@@ -28,4 +28,10 @@ pub fn chart_read_is_spelled()
 /// with what they declare.
 pub fn declarations_spelled_are_read()
     ensures { DeclarationsSpelledAreRead }
+{}
+
+/// Transitions of the grammar at the front of the lexemes are read, where no transition follows. The input is then behind them,
+/// and nothing more is declared.
+pub fn transitions_spelled_are_read()
+    ensures { TransitionsSpelledAreRead }
 {}

@@ -19,3 +19,5 @@ pub mod ChartRead
 pub mod Giving
 pub mod DeclaredReads
 pub mod MovedReads
+pub mod DrawnReads
+pub mod ChartSpelled

@@ -202,11 +202,11 @@ moves_give text s (phrase.moves {es} {gs} {ds} from_word from_name to_word to_na
     pure_gave text s (record { source = source; target = target; event = event; guard = guard; actions = found }) more rest at count is))))))))
 
 -- a transition begins with `from`
-record BeginsWithFrom (ws more : List Lexeme) : Type 0 where
-  first : first_piece (ws ++ more) ≡ Some pieces.From
-  some : 1 ≤ length ws
+pub record BeginsWithFrom (ws more : List Lexeme) : Type 0 where
+  pub first : first_piece (ws ++ more) ≡ Some pieces.From
+  pub some : 1 ≤ length ws
 
-moves_begin : (names : Names) {us : List Lexeme} {t : Transition} → Moves names us t → (more : List Lexeme) → BeginsWithFrom us more
+pub moves_begin : (names : Names) {us : List Lexeme} {t : Transition} → Moves names us t → (more : List Lexeme) → BeginsWithFrom us more
 moves_begin names (phrase.moves {es} {gs} {ds} from_word from_name to_word to_name ends source target event guard found is_from is_source is_to is_target on if_ do_ semicolon) more =
     record { first = ap Some is_from; some = omega arith }
 

@@ -1,5 +1,5 @@
 //! Laws of the reader of charts: it reads what the grammar spells, and nothing else.
-ghost use Rattle.wf_grammar.specs.ChartLaws.{ChartReadIsSpelled, DeclarationsReadAreSpelled, DeclarationsSpelledAreRead, RootReadIsSpelled, TransitionsReadAreSpelled, TransitionsSpelledAreRead};
+ghost use Rattle.wf_grammar.specs.ChartLaws.{ChartReadIsSpelled, ChartSpelledIsRead, DeclarationsReadAreSpelled, DeclarationsSpelledAreRead, RootReadIsSpelled, RootSpelledIsRead, SpellsOneChart, TransitionsReadAreSpelled, TransitionsSpelledAreRead};
 
 /// Where declarations are read, a front part of the lexemes is declarations by the grammar. The input is then behind them, with
 /// what they declare.
@@ -34,4 +34,20 @@ pub fn declarations_spelled_are_read()
 /// and nothing more is declared.
 pub fn transitions_spelled_are_read()
     ensures { TransitionsSpelledAreRead }
+{}
+
+/// A root of the grammar at the front of the lexemes, or none, is read, where no state follows. The input is then behind it, with
+/// the states that it declares.
+pub fn root_spelled_is_read()
+    ensures { RootSpelledIsRead }
+{}
+
+/// Where the tokens of a text are a text of a chart by the grammar, the text means this chart.
+pub fn chart_spelled_is_read()
+    ensures { ChartSpelledIsRead }
+{}
+
+/// The tokens of a text are a text of at most one chart.
+pub fn spells_one_chart()
+    ensures { SpellsOneChart }
 {}

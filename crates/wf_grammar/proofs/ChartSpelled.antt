@@ -1,12 +1,11 @@
 -- Tokens that are a text of a chart mean this chart.
-use Rattle.std.proofs.Common.{◌≡◌, ◌≢◌, ℕ, ◌+◌, ◌≤◌, ◌⊎◌, inl, inr, Bool, true, false, if◌then◌else◌, nat_lt, nat_le, List, [], ◌∷◌, ◌++◌, length, map, Option, Some, None, Result, Ok, Err, refl, sym, ◌∙◌, ap, subst, append_assoc, append-nil}
+use Rattle.std.proofs.Common.{◌≡◌, ◌≢◌, ℕ, ◌+◌, ◌≤◌, ◌⊎◌, inl, inr, true, nat_le, List, [], ◌∷◌, ◌++◌, length, map, Option, Some, None, Result, Ok, refl, sym, ◌∙◌, ap, append-nil}
 use Rattle.wf_model.specs.declared.limits.TheConstants.{MAX_NAME}
 use Rattle.wf_model.specs.declared.chart.Kind.{Kind}
 use Rattle.wf_model.specs.declared.chart.Kind.TheVariants as kinds
 use Rattle.wf_model.specs.declared.chart.Transition.{Transition}
 use Rattle.wf_model.specs.declared.chart.Chart.{Chart}
 use Rattle.wf_lex.specs.declared.token.Token.{Token}
-use Rattle.wf_lex.specs.Lex.{tokens_of}
 use Rattle.wf_cursor.specs.declared.piece.Piece.{Piece}
 use Rattle.wf_cursor.specs.declared.piece.Piece.TheVariants as pieces
 use Rattle.wf_cursor.specs.Input as input
@@ -29,7 +28,7 @@ use Rattle.wf_grammar.proofs.SpellSteps.{sees_here, headed, emptied}
 use Rattle.wf_grammar.proofs.Places.{within}
 use Rattle.wf_grammar.proofs.Giving.{Gave, then_gives, pure_gave, expect_gives}
 use Rattle.wf_grammar.proofs.DeclaredReads.{declarations_give}
-use Rattle.wf_grammar.proofs.DrawnReads.{root_gives, BeginsState, state_begins}
+use Rattle.wf_grammar.proofs.DrawnReads.{root_gives, state_begins}
 use Rattle.wf_grammar.proofs.MovedReads.{moves_begin, transitions_give}
 
 -- ---- what each part of a chart begins with
@@ -54,20 +53,32 @@ no_state p (inr is) = (not_other p pieces.From pieces.Basic (λ e. cc) is, not_o
 
 no_declaration : (p : Option Piece) → AtTransitions p → BeginsNoDeclaration p
 no_declaration p (inl is) = (not_none p pieces.Unit is, not_none p pieces.Event is, not_none p pieces.Var is, not_none p pieces.Activity is)
-no_declaration p (inr is) =
-    (not_other p pieces.From pieces.Unit (λ e. cc) is, not_other p pieces.From pieces.Event (λ e. cc) is, not_other p pieces.From pieces.Var (λ e. cc) is,
-    not_other p pieces.From pieces.Activity (λ e. cc) is)
+no_declaration p (inr is) = (
+  not_other p pieces.From pieces.Unit (λ e. cc) is,
+  not_other p pieces.From pieces.Event (λ e. cc) is,
+  not_other p pieces.From pieces.Var (λ e. cc) is,
+  not_other p pieces.From pieces.Activity (λ e. cc) is,
+)
 
 word_begins_no_declaration : (k : Kind) (p : Option Piece) → p ≡ Some (word_of_kind k) → BeginsNoDeclaration p
-word_begins_no_declaration kinds.Basic p is =
-    (not_other p pieces.Basic pieces.Unit (λ e. cc) is, not_other p pieces.Basic pieces.Event (λ e. cc) is, not_other p pieces.Basic pieces.Var (λ e. cc) is,
-    not_other p pieces.Basic pieces.Activity (λ e. cc) is)
-word_begins_no_declaration kinds.Or p is =
-    (not_other p pieces.Or pieces.Unit (λ e. cc) is, not_other p pieces.Or pieces.Event (λ e. cc) is, not_other p pieces.Or pieces.Var (λ e. cc) is,
-    not_other p pieces.Or pieces.Activity (λ e. cc) is)
-word_begins_no_declaration kinds.And p is =
-    (not_other p pieces.And pieces.Unit (λ e. cc) is, not_other p pieces.And pieces.Event (λ e. cc) is, not_other p pieces.And pieces.Var (λ e. cc) is,
-    not_other p pieces.And pieces.Activity (λ e. cc) is)
+word_begins_no_declaration kinds.Basic p is = (
+  not_other p pieces.Basic pieces.Unit (λ e. cc) is,
+  not_other p pieces.Basic pieces.Event (λ e. cc) is,
+  not_other p pieces.Basic pieces.Var (λ e. cc) is,
+  not_other p pieces.Basic pieces.Activity (λ e. cc) is,
+)
+word_begins_no_declaration kinds.Or p is = (
+  not_other p pieces.Or pieces.Unit (λ e. cc) is,
+  not_other p pieces.Or pieces.Event (λ e. cc) is,
+  not_other p pieces.Or pieces.Var (λ e. cc) is,
+  not_other p pieces.Or pieces.Activity (λ e. cc) is,
+)
+word_begins_no_declaration kinds.And p is = (
+  not_other p pieces.And pieces.Unit (λ e. cc) is,
+  not_other p pieces.And pieces.Event (λ e. cc) is,
+  not_other p pieces.And pieces.Var (λ e. cc) is,
+  not_other p pieces.And pieces.Activity (λ e. cc) is,
+)
 
 root_begins : (s : Scope) {ss : List Lexeme} {s' : Scope} → Root s ss s' → (ts : List Lexeme) → AtTransitions (first_piece ts) → BeginsNoDeclaration (first_piece (ss ++ ts))
 root_begins s drawing.no_root ts at = no_declaration (first_piece ts) at
@@ -93,7 +104,7 @@ any_name_gives text s w ws left at count is is_name is_short =
       count = count;
       rest_is = h.rest_is;
       gives = rw (sees_here i h.token h.rest at count pieces.Name (ap (λ (v : Lexeme). v.piece) h.token_is ∙ is_name))
-      (rw short (rw is_word (ap (λ (k : Input). Ok (w.bytes, k)) (next_here i h.token h.rest at count))));
+          (rw short (rw is_word (ap (λ (k : Input). Ok (w.bytes, k)) (next_here i h.token h.rest at count))));
     })
 
 finished_gives : (text : List ℕ) (s : Scope) (left : List Token) (at count : ℕ) → map (lexeme_of text) left ≡ [] → Gave text s tt [] (finished (here (within text s) left at count))

@@ -22,9 +22,9 @@ use Rattle.wf_grammar.specs.Scopes.{Scope}
 use Rattle.wf_grammar.specs.Declaring as phrase
 use Rattle.wf_grammar.specs.Declaring.{word_of_sort, Literal, AtUnit, Vars, Gives, Declares, Declarations}
 use Rattle.wf_grammar.specs.ChartLaws.{scope_of, DeclarationsReadAreSpelled}
-use Rattle.wf_grammar.proofs.Inputs.{here, piece_here, piece_none, next_here, steps_of, pure_gives, then_assoc}
-use Rattle.wf_grammar.proofs.ReadSteps.{TookOne, expect_then, variable_then, int_then, text_then}
-use Rattle.wf_grammar.proofs.Places.{within, Meaning, Read, ReadsOnly, ends_read, Behind, read_then, eat_then, unit_then, negated_int_then, TookNew, new_name_then, both_parts, ended, Changes, ends_changed, BehindChange, change_then}
+use Rattle.wf_grammar.proofs.Inputs.{here, piece_here, piece_none, next_here, then_assoc}
+use Rattle.wf_grammar.proofs.ReadSteps.{expect_then, variable_then, int_then, text_then}
+use Rattle.wf_grammar.proofs.Places.{within, Meaning, Read, ReadsOnly, ends_read, read_then, eat_then, unit_then, negated_int_then, new_name_then, both_parts, ended, Changes, ends_changed, BehindChange, change_then}
 
 -- ---- sorts and literals
 
@@ -94,11 +94,11 @@ at_unit_reads : (i : Input) → ReadsOnly i (AtUnit i.names) reader.placed
 unfolding reader.placed
 at_unit_reads i left at count x j h =
     elim (eat_then i pieces.At left at count _ x j h) [
-      inl e ↦ (
-        let n = unit_then i (Option UnitId) e.rest (at + 1) count _ x j e.goes_on in
-        rw e.whole (rw n.whole (ends_read i (AtUnit i.names) (lexeme_of i.text e.token ∷ lexeme_of i.text n.token ∷ []) (e.token ∷ n.token ∷ n.rest) n.rest (at + 1 + 1) count (Some n.value) x j refl
-        (phrase.at_unit (lexeme_of i.text e.token) (lexeme_of i.text n.token) n.value e.is n.is) n.goes_on)))
-    | inr h' ↦ ends_read i (AtUnit i.names) [] left left at count None x j refl phrase.nowhere h'
+      | inl e ↦ (
+          let n = unit_then i (Option UnitId) e.rest (at + 1) count _ x j e.goes_on in
+          rw e.whole (rw n.whole (ends_read i (AtUnit i.names) (lexeme_of i.text e.token ∷ lexeme_of i.text n.token ∷ []) (e.token ∷ n.token ∷ n.rest) n.rest (at + 1 + 1) count (Some n.value) x j refl
+          (phrase.at_unit (lexeme_of i.text e.token) (lexeme_of i.text n.token) n.value e.is n.is) n.goes_on)))
+      | inr h' ↦ ends_read i (AtUnit i.names) [] left left at count None x j refl phrase.nowhere h'
     ]
 
 -- behind a variable, and with those that were found before it
@@ -112,19 +112,19 @@ outputs_go_on i zero found n x is left at count xs j h =
     ends_read i (OutputsOn i.names found n x) [] left left at count found xs j refl ([], sym (append-nil found), phrase.one_var n x is) h
 outputs_go_on i (suc turns) found n x is left at count xs j h =
     elim (eat_then i pieces.Comma left at count _ xs j h) [
-      inl e ↦ (
-        let m = variable_then i (List VarId) e.rest (at + 1) count _ xs j e.goes_on in
-        let r = outputs_go_on i turns (found ++ m.value ∷ []) (lexeme_of i.text m.token) m.value m.is m.rest (at + 1 + 1) count xs j m.goes_on in
-        rw e.whole (rw m.whole (record {
-          words = lexeme_of i.text e.token ∷ lexeme_of i.text m.token ∷ r.words;
-          rest = r.rest;
-          at = r.at;
-          count = r.count;
-          whole = ap (λ ls. lexeme_of i.text e.token ∷ lexeme_of i.text m.token ∷ ls) r.whole;
-          taken = (m.value ∷ r.taken.0, r.taken.1 ∙ append_assoc found (m.value ∷ []) r.taken.0, phrase.more_vars n (lexeme_of i.text e.token) x is e.is r.taken.2);
-          end = r.end;
-        })))
-    | inr h' ↦ ends_read i (OutputsOn i.names found n x) [] left left at count found xs j refl ([], sym (append-nil found), phrase.one_var n x is) h'
+      | inl e ↦ (
+          let m = variable_then i (List VarId) e.rest (at + 1) count _ xs j e.goes_on in
+          let r = outputs_go_on i turns (found ++ m.value ∷ []) (lexeme_of i.text m.token) m.value m.is m.rest (at + 1 + 1) count xs j m.goes_on in
+          rw e.whole (rw m.whole (record {
+            words = lexeme_of i.text e.token ∷ lexeme_of i.text m.token ∷ r.words;
+            rest = r.rest;
+            at = r.at;
+            count = r.count;
+            whole = ap (λ ls. lexeme_of i.text e.token ∷ lexeme_of i.text m.token ∷ ls) r.whole;
+            taken = (m.value ∷ r.taken.0, r.taken.1 ∙ append_assoc found (m.value ∷ []) r.taken.0, phrase.more_vars n (lexeme_of i.text e.token) x is e.is r.taken.2);
+            end = r.end;
+          })))
+      | inr h' ↦ ends_read i (OutputsOn i.names found n x) [] left left at count found xs j refl ([], sym (append-nil found), phrase.one_var n x is) h'
     ]
 
 outputs_read : (i : Input) → ReadsOnly i (Vars i.names) outputs
@@ -146,18 +146,18 @@ given_reads : (i : Input) → ReadsOnly i (Gives i.names) given
 unfolding given
 given_reads i left at count xs j h =
     elim (eat_then i pieces.Gives left at count _ xs j h) [
-      inl e ↦ (
-        let r = outputs_read i e.rest (at + 1) count xs j e.goes_on in
-        rw e.whole (record {
-          words = lexeme_of i.text e.token ∷ r.words;
-          rest = r.rest;
-          at = r.at;
-          count = r.count;
-          whole = ap (λ ls. lexeme_of i.text e.token ∷ ls) r.whole;
-          taken = phrase.gives_vars (lexeme_of i.text e.token) e.is r.taken;
-          end = r.end;
-        }))
-    | inr h' ↦ ends_read i (Gives i.names) [] left left at count [] xs j refl phrase.gives_nothing h'
+      | inl e ↦ (
+          let r = outputs_read i e.rest (at + 1) count xs j e.goes_on in
+          rw e.whole (record {
+            words = lexeme_of i.text e.token ∷ r.words;
+            rest = r.rest;
+            at = r.at;
+            count = r.count;
+            whole = ap (λ ls. lexeme_of i.text e.token ∷ ls) r.whole;
+            taken = phrase.gives_vars (lexeme_of i.text e.token) e.is r.taken;
+            end = r.end;
+          }))
+      | inr h' ↦ ends_read i (Gives i.names) [] left left at count [] xs j refl phrase.gives_nothing h'
     ]
 
 -- ---- declarations
@@ -256,19 +256,19 @@ unfolding declarations_from
 declarations_from_read text zero s left at count j h = ends_changed text (Declarations s) s [] left left at count j refl phrase.no_declaration h
 declarations_from_read text (suc turns) s left at count j h =
     elim (declaration_then text s left at count _ tt j h) [
-      inl d ↦ (
-        let r = declarations_from_read text turns d.after d.rest d.at d.count j d.goes_on in
-        record {
-          after = r.after;
-          words = d.words ++ r.words;
-          rest = r.rest;
-          at = r.at;
-          count = r.count;
-          whole = both_parts d.words r.words (map (lexeme_of text) r.rest) d.whole r.whole;
-          taken = phrase.more_declarations d.taken r.taken;
-          end = r.end;
-        })
-    | inr h' ↦ ends_changed text (Declarations s) s [] left left at count j refl phrase.no_declaration h'
+      | inl d ↦ (
+          let r = declarations_from_read text turns d.after d.rest d.at d.count j d.goes_on in
+          record {
+            after = r.after;
+            words = d.words ++ r.words;
+            rest = r.rest;
+            at = r.at;
+            count = r.count;
+            whole = both_parts d.words r.words (map (lexeme_of text) r.rest) d.whole r.whole;
+            taken = phrase.more_declarations d.taken r.taken;
+            end = r.end;
+          })
+      | inr h' ↦ ends_changed text (Declarations s) s [] left left at count j refl phrase.no_declaration h'
     ]
 
 pub declarations_change : (text : List ℕ) (s : Scope) → Changes text s (Declarations s) declarations

@@ -1,6 +1,5 @@
 -- Declarations of the grammar are read.
-use Rattle.std.proofs.Common.{◌≡◌, ◌≢◌, ℕ, zero, suc, ◌+◌, ◌≤◌, Bool, true, false, List, [], ◌∷◌, ◌++◌, length, map, Option, Some, None, Ok, pos, neg_ℤ, refl, sym, ◌∙◌, ap, subst, append_assoc, append-nil, length-append, arith}
-use Rattle.std.proofs.lemmas.List.{length-map}
+use Rattle.std.proofs.Common.{◌≡◌, ◌≢◌, ℕ, zero, suc, ◌≤◌, true, false, List, [], ◌∷◌, ◌++◌, length, map, Option, Some, None, Ok, pos, neg_ℤ, refl, ◌∙◌, ap, append_assoc, append-nil, length-append, arith}
 use Rattle.wf_model.specs.declared.ids.UnitId.{UnitId}
 use Rattle.wf_model.specs.declared.ids.VarId.{VarId}
 use Rattle.wf_model.specs.declared.value.Sort.{Sort}
@@ -211,7 +210,7 @@ act_declared text s gs w n at_word place ends u outputs is_act new is_at is_unit
 said : (text : List ℕ) (s : Scope) (more : List Lexeme) (p : Parser (Unit {0})) (k : Input) → Gave text s tt more (p k) → Gave text s true more ((p >> pure true) k)
 said text s more p k g = then_gives text s s _ _ _ _ _ _ g (λ rest at count is. pure_gave text s true more rest at count is)
 
--- two tokens, a phrase and the token that ends it
+-- a phrase, the token that ends it, and what is behind
 ends_behind : (us more : List Lexeme) (ends : Lexeme) → (us ++ ends ∷ []) ++ more ≡ us ++ ends ∷ more
 ends_behind us more ends = append_assoc us (ends ∷ []) more
 

@@ -1,7 +1,6 @@
 -- States that are read are in the grammar.
-use Rattle.std.proofs.Common.{◌≡◌, ℕ, zero, suc, ◌+◌, ◌⊎◌, inl, inr, Bool, true, false, List, [], ◌∷◌, ◌++◌, length, map, Option, Some, None, Ok, refl, sym, ◌∙◌, ap, subst, append_assoc}
+use Rattle.std.proofs.Common.{◌≡◌, ℕ, zero, suc, ◌+◌, inl, inr, List, [], ◌∷◌, ◌++◌, length, map, Option, Some, None, Ok, refl, sym, ◌∙◌, ap, subst, append_assoc}
 use Rattle.wf_model.specs.declared.limits.TheConstants.{MAX_OPEN}
-use Rattle.wf_model.specs.declared.ids.UnitId.{UnitId}
 use Rattle.wf_model.specs.declared.ids.StateId.{StateId}
 use Rattle.wf_model.specs.declared.chart.Kind.{Kind}
 use Rattle.wf_model.specs.declared.chart.Kind.TheVariants as kinds
@@ -22,7 +21,7 @@ use Rattle.wf_grammar.specs.Drawing.{word_of_kind, Heads, Part, Draws, Root}
 use Rattle.wf_grammar.specs.ChartLaws.{scope_of, RootReadIsSpelled}
 use Rattle.wf_grammar.proofs.Inputs.{here, piece_here, piece_none, next_here, steps_of, pure_gives}
 use Rattle.wf_grammar.proofs.ReadSteps.{expect_then}
-use Rattle.wf_grammar.proofs.Places.{within, eat_then, unit_then, new_name_then, both_parts, ended, Change, Changed, Changes, ends_changed, BehindChange, change_then}
+use Rattle.wf_grammar.proofs.Places.{within, eat_then, unit_then, new_name_then, both_parts, Changed, Changes, ends_changed, change_then}
 
 -- the word of a kind was taken
 record TookKind {B : Type 0} (i : Input) (left : List Token) (at count : ℕ) (f : Kind → Parser B) (y : B) (j : Input) : Type 0 where
@@ -93,27 +92,27 @@ module _ (text : List ℕ) (depth : ℕ) (parent : Option StateId) where
   children_from_read child reads zero s left at count j h = cc
   children_from_read child reads (suc turns) s left at count j h =
       elim (eat_then (within text s) pieces.CloseBrace left at count _ tt j h) [
-        inl e ↦ rw e.whole (ends_changed text (Closes s) s (lexeme_of text e.token ∷ []) (e.token ∷ e.rest) e.rest (at + 1) count j refl
-          (record { inside = []; closes = lexeme_of text e.token; whole = refl; is_close = e.is; drawn = phrase.no_state }) e.goes_on)
-      | inr h' ↦ (
-          let c = change_then text s (Draws depth Part.state parent s) child (reads s) left at count _ tt j h' in
-          let r = children_from_read child reads turns c.after c.rest c.at c.count j c.goes_on in
-          record {
-            after = r.after;
-            words = c.words ++ r.words;
-            rest = r.rest;
-            at = r.at;
-            count = r.count;
-            whole = both_parts c.words r.words (map (lexeme_of text) r.rest) c.whole r.whole;
-            taken = record {
-              inside = c.words ++ r.taken.inside;
-              closes = r.taken.closes;
-              whole = ap (λ ls. c.words ++ ls) r.taken.whole ∙ sym (append_assoc c.words r.taken.inside (r.taken.closes ∷ []));
-              is_close = r.taken.is_close;
-              drawn = phrase.more_states c.taken r.taken.drawn;
-            };
-            end = r.end;
-          })
+        | inl e ↦ rw e.whole (ends_changed text (Closes s) s (lexeme_of text e.token ∷ []) (e.token ∷ e.rest) e.rest (at + 1) count j refl
+            (record { inside = []; closes = lexeme_of text e.token; whole = refl; is_close = e.is; drawn = phrase.no_state }) e.goes_on)
+        | inr h' ↦ (
+            let c = change_then text s (Draws depth Part.state parent s) child (reads s) left at count _ tt j h' in
+            let r = children_from_read child reads turns c.after c.rest c.at c.count j c.goes_on in
+            record {
+              after = r.after;
+              words = c.words ++ r.words;
+              rest = r.rest;
+              at = r.at;
+              count = r.count;
+              whole = both_parts c.words r.words (map (lexeme_of text) r.rest) c.whole r.whole;
+              taken = record {
+                inside = c.words ++ r.taken.inside;
+                closes = r.taken.closes;
+                whole = ap (λ ls. c.words ++ ls) r.taken.whole ∙ sym (append_assoc c.words r.taken.inside (r.taken.closes ∷ []));
+                is_close = r.taken.is_close;
+                drawn = phrase.more_states c.taken r.taken.drawn;
+              };
+              end = r.end;
+            })
       ]
 
 -- ---- states

@@ -1,5 +1,5 @@
 -- What the steps of a chart's rules answer, where the lexemes that are left are given.
-use Rattle.std.proofs.Common.{◌≡◌, ◌≢◌, ℕ, ◌+◌, ◌≤◌, Bool, true, false, if◌then◌else◌, nat_le, List, [], ◌∷◌, ◌++◌, length, map, Option, Some, None, Ok, refl, sym, ◌∙◌, ap, subst, drop, length-append, arith}
+use Rattle.std.proofs.Common.{◌≡◌, ◌≢◌, ℕ, ◌+◌, ◌≤◌, Bool, true, false, nat_le, List, ◌∷◌, ◌++◌, length, map, Option, Some, None, Ok, refl, sym, ◌∙◌, ap, drop, length-append, arith}
 use Rattle.std.proofs.lemmas.List.{length-map, drop_at}
 use Rattle.wf_model.specs.declared.limits.TheConstants.{MAX_NAME}
 use Rattle.wf_model.specs.declared.ids.UnitId.{UnitId}
@@ -26,7 +26,7 @@ use Rattle.wf_grammar.specs.Laws.{first_piece, IsNoOperator}
 use Rattle.wf_grammar.specs.Scopes.{Scope, IsNewName, named}
 use Rattle.wf_grammar.specs.Moving.{SpellsWhole}
 use Rattle.wf_grammar.proofs.Inputs.{here, spelling_here, next_here, declared_here, sees_piece, is_fit}
-use Rattle.wf_grammar.proofs.SpellSteps.{sees_here, expect_here, name_here, declared_is, variable_here, state_here, activity_here, int_here, text_here, piece_first, Headed, headed, parted}
+use Rattle.wf_grammar.proofs.SpellSteps.{sees_here, expect_here, name_here, declared_is, variable_here, state_here, activity_here, int_here, text_here, piece_first, headed, parted}
 use Rattle.wf_grammar.proofs.SpelledRead.{spelled_is_read}
 use Rattle.wf_grammar.proofs.Places.{within, with_name_here}
 

@@ -1,11 +1,9 @@
 -- Transitions that are read are in the grammar.
 use Rattle.std.proofs.Common.{◌≡◌, ℕ, zero, suc, ◌+◌, ◌⊎◌, inl, inr, Bool, true, false, if◌then◌else◌, List, [], ◌∷◌, ◌++◌, length, map, drop, Option, Some, None, Ok, refl, sym, ◌∙◌, ap, subst, append_assoc, append-nil}
 use Rattle.wf_model.specs.declared.ids.EventId.{EventId}
-use Rattle.wf_model.specs.declared.ids.StateId.{StateId}
 use Rattle.wf_model.specs.declared.chart.Action.{Action}
 use Rattle.wf_model.specs.declared.chart.Action.TheVariants as act
 use Rattle.wf_model.specs.declared.chart.Transition.{Transition}
-use Rattle.wf_model.specs.declared.expr.Expr.{Expr}
 use Rattle.wf_model.specs.Accepted.{nodes}
 use Rattle.wf_lex.specs.declared.token.Token.{Token}
 use Rattle.wf_cursor.specs.declared.piece.Piece.{Piece}
@@ -42,22 +40,22 @@ caused_reads : (i : Input) → ReadsOnly i (OnEvent i.names) caused
 unfolding caused
 caused_reads i left at count x j h =
     elim (eat_then i pieces.On left at count _ x j h) [
-      inl e ↦ (
-        let n = event_then i (Option EventId) e.rest (at + 1) count _ x j e.goes_on in
-        rw e.whole (rw n.whole (ends_read i (OnEvent i.names) (lexeme_of i.text e.token ∷ lexeme_of i.text n.token ∷ []) (e.token ∷ n.token ∷ n.rest) n.rest (at + 1 + 1) count (Some n.value) x j refl
-        (phrase.on_event (lexeme_of i.text e.token) (lexeme_of i.text n.token) n.value e.is n.is) n.goes_on)))
-    | inr h' ↦ ends_read i (OnEvent i.names) [] left left at count None x j refl phrase.no_event h'
+      | inl e ↦ (
+          let n = event_then i (Option EventId) e.rest (at + 1) count _ x j e.goes_on in
+          rw e.whole (rw n.whole (ends_read i (OnEvent i.names) (lexeme_of i.text e.token ∷ lexeme_of i.text n.token ∷ []) (e.token ∷ n.token ∷ n.rest) n.rest (at + 1 + 1) count (Some n.value) x j refl
+          (phrase.on_event (lexeme_of i.text e.token) (lexeme_of i.text n.token) n.value e.is n.is) n.goes_on)))
+      | inr h' ↦ ends_read i (OnEvent i.names) [] left left at count None x j refl phrase.no_event h'
     ]
 
 guarded_reads : (i : Input) → ReadsOnly i (IfGuard i.names) guarded
 unfolding guarded
 guarded_reads i left at count x j h =
     elim (eat_then i pieces.If left at count _ x j h) [
-      inl e ↦ (
-        let r = read_then i (SpellsWhole i.names) expr (expr_reads i) e.rest (at + 1) count _ x j e.goes_on in
-        rw e.whole (ends_read i (IfGuard i.names) (lexeme_of i.text e.token ∷ r.words) (e.token ∷ e.rest) r.rest r.at r.count (Some r.value) x j
-        (ap (λ ls. lexeme_of i.text e.token ∷ ls) r.whole) (phrase.if_guard (lexeme_of i.text e.token) e.is r.taken) r.goes_on))
-    | inr h' ↦ ends_read i (IfGuard i.names) [] left left at count None x j refl phrase.no_guard h'
+      | inl e ↦ (
+          let r = read_then i (SpellsWhole i.names) expr (expr_reads i) e.rest (at + 1) count _ x j e.goes_on in
+          rw e.whole (ends_read i (IfGuard i.names) (lexeme_of i.text e.token ∷ r.words) (e.token ∷ e.rest) r.rest r.at r.count (Some r.value) x j
+          (ap (λ ls. lexeme_of i.text e.token ∷ ls) r.whole) (phrase.if_guard (lexeme_of i.text e.token) e.is r.taken) r.goes_on))
+      | inr h' ↦ ends_read i (IfGuard i.names) [] left left at count None x j refl phrase.no_guard h'
     ]
 
 -- ---- actions
@@ -113,19 +111,19 @@ actions_go_on i zero found us a is left at count xs j h =
     ends_read i (ActionsOn i.names found us a) [] left left at count found xs j refl ([], sym (append-nil found), rw (append-nil us) (phrase.one_action is)) h
 actions_go_on i (suc turns) found us a is left at count xs j h =
     elim (eat_then i pieces.Comma left at count _ xs j h) [
-      inl e ↦ (
-        let m = read_then i (Acts i.names) action (action_reads i) e.rest (at + 1) count _ xs j e.goes_on in
-        let r = actions_go_on i turns (found ++ m.value ∷ []) m.words m.value m.taken m.rest m.at m.count xs j m.goes_on in
-        rw e.whole (record {
-          words = lexeme_of i.text e.token ∷ (m.words ++ r.words);
-          rest = r.rest;
-          at = r.at;
-          count = r.count;
-          whole = ap (λ ls. lexeme_of i.text e.token ∷ ls) (both_parts m.words r.words (map (lexeme_of i.text) r.rest) m.whole r.whole);
-          taken = (m.value ∷ r.taken.0, r.taken.1 ∙ append_assoc found (m.value ∷ []) r.taken.0, phrase.more_actions (lexeme_of i.text e.token) is e.is r.taken.2);
-          end = r.end;
-        }))
-    | inr h' ↦ ends_read i (ActionsOn i.names found us a) [] left left at count found xs j refl ([], sym (append-nil found), rw (append-nil us) (phrase.one_action is)) h'
+      | inl e ↦ (
+          let m = read_then i (Acts i.names) action (action_reads i) e.rest (at + 1) count _ xs j e.goes_on in
+          let r = actions_go_on i turns (found ++ m.value ∷ []) m.words m.value m.taken m.rest m.at m.count xs j m.goes_on in
+          rw e.whole (record {
+            words = lexeme_of i.text e.token ∷ (m.words ++ r.words);
+            rest = r.rest;
+            at = r.at;
+            count = r.count;
+            whole = ap (λ ls. lexeme_of i.text e.token ∷ ls) (both_parts m.words r.words (map (lexeme_of i.text) r.rest) m.whole r.whole);
+            taken = (m.value ∷ r.taken.0, r.taken.1 ∙ append_assoc found (m.value ∷ []) r.taken.0, phrase.more_actions (lexeme_of i.text e.token) is e.is r.taken.2);
+            end = r.end;
+          }))
+      | inr h' ↦ ends_read i (ActionsOn i.names found us a) [] left left at count found xs j refl ([], sym (append-nil found), rw (append-nil us) (phrase.one_action is)) h'
     ]
 
 actions_read : (i : Input) → ReadsOnly i (Actions i.names) actions
@@ -147,18 +145,18 @@ effects_read : (i : Input) → ReadsOnly i (DoActions i.names) effects
 unfolding effects
 effects_read i left at count xs j h =
     elim (eat_then i pieces.Do left at count _ xs j h) [
-      inl e ↦ (
-        let r = actions_read i e.rest (at + 1) count xs j e.goes_on in
-        rw e.whole (record {
-          words = lexeme_of i.text e.token ∷ r.words;
-          rest = r.rest;
-          at = r.at;
-          count = r.count;
-          whole = ap (λ ls. lexeme_of i.text e.token ∷ ls) r.whole;
-          taken = phrase.do_actions (lexeme_of i.text e.token) e.is r.taken;
-          end = r.end;
-        }))
-    | inr h' ↦ ends_read i (DoActions i.names) [] left left at count [] xs j refl phrase.no_action h'
+      | inl e ↦ (
+          let r = actions_read i e.rest (at + 1) count xs j e.goes_on in
+          rw e.whole (record {
+            words = lexeme_of i.text e.token ∷ r.words;
+            rest = r.rest;
+            at = r.at;
+            count = r.count;
+            whole = ap (λ ls. lexeme_of i.text e.token ∷ ls) r.whole;
+            taken = phrase.do_actions (lexeme_of i.text e.token) e.is r.taken;
+            end = r.end;
+          }))
+      | inr h' ↦ ends_read i (DoActions i.names) [] left left at count [] xs j refl phrase.no_action h'
     ]
 
 -- ---- transitions
@@ -203,19 +201,19 @@ transitions_from_read i zero found left at count xs j h =
     ends_read i (TransitionsOn i.names found) [] left left at count found xs j refl ([], sym (append-nil found), phrase.no_transition) h
 transitions_from_read i (suc turns) found left at count xs j h =
     elim (either (sees pieces.From (here i left at count)) (transition >>= (λ next. transitions_from turns (found ++ next ∷ []))) (pure found) (here i left at count) xs j h) [
-      inl h' ↦ (
-        let m = read_then i (Moves i.names) transition (transition_reads i) left at count _ xs j h' in
-        let r = transitions_from_read i turns (found ++ m.value ∷ []) m.rest m.at m.count xs j m.goes_on in
-        record {
-          words = m.words ++ r.words;
-          rest = r.rest;
-          at = r.at;
-          count = r.count;
-          whole = both_parts m.words r.words (map (lexeme_of i.text) r.rest) m.whole r.whole;
-          taken = (m.value ∷ r.taken.0, r.taken.1 ∙ append_assoc found (m.value ∷ []) r.taken.0, phrase.more_transitions m.taken r.taken.2);
-          end = r.end;
-        })
-    | inr h' ↦ ends_read i (TransitionsOn i.names found) [] left left at count found xs j refl ([], sym (append-nil found), phrase.no_transition) h'
+      | inl h' ↦ (
+          let m = read_then i (Moves i.names) transition (transition_reads i) left at count _ xs j h' in
+          let r = transitions_from_read i turns (found ++ m.value ∷ []) m.rest m.at m.count xs j m.goes_on in
+          record {
+            words = m.words ++ r.words;
+            rest = r.rest;
+            at = r.at;
+            count = r.count;
+            whole = both_parts m.words r.words (map (lexeme_of i.text) r.rest) m.whole r.whole;
+            taken = (m.value ∷ r.taken.0, r.taken.1 ∙ append_assoc found (m.value ∷ []) r.taken.0, phrase.more_transitions m.taken r.taken.2);
+            end = r.end;
+          })
+      | inr h' ↦ ends_read i (TransitionsOn i.names found) [] left left at count found xs j refl ([], sym (append-nil found), phrase.no_transition) h'
     ]
 
 pub transitions_reads : (i : Input) → ReadsOnly i (Transitions i.names) transitions

@@ -9,14 +9,12 @@ use Rattle.wf_cursor.specs.declared.names.Declared.TheVariants as declared_as_a
 use Rattle.wf_cursor.specs.declared.piece.Piece.{Piece}
 use Rattle.wf_cursor.specs.declared.piece.Piece.TheVariants as pieces
 use Rattle.wf_cursor.specs.Values.{number_up_to}
-use Rattle.wf_cursor.specs.Names.{declared_as}
 use Rattle.wf_cursor.specs.Input as input
 use Rattle.wf_cursor.specs.Input.{Input, Outcome, Parser, and_then, ◌>>=◌, pure, sees, next, eat, new_name, new_name_by, with_name, declared, spelling, unit_by, event_by, int_up_to, int_by}
 use Rattle.wf_grammar.specs.Lexemes.{Lexeme, lexeme_of}
-use Rattle.wf_grammar.specs.Phrases.{Is}
 use Rattle.wf_grammar.specs.Scopes.{Scope, IsNewName, named}
 use Rattle.wf_grammar.proofs.Inputs.{here, declared_here, next_here, spelling_here, seen_here, steps_of, pure_gives, then_assoc}
-use Rattle.wf_grammar.proofs.ReadSteps.{TookOne, took_one, TookName, TakesName, TookValue, Inverts, NameAhead, name_then, name_by, value_by, int_inverts}
+use Rattle.wf_grammar.proofs.ReadSteps.{TookOne, took_one, TakesName, TookValue, Inverts, name_then, name_by, value_by, int_inverts}
 
 -- an input of this text where this is declared
 abbrev pub within : List ℕ → Scope → Input
@@ -223,5 +221,5 @@ new_name_then {B} text s what left at count f y j h =
       whole = n.whole;
       is = record { is_name = n.is_name; is_short = n.is_short; is_new = sym (declared_here i n.token n.rest at count) ∙ v.0 };
       goes_on = subst (λ (k : Input). f (lexeme_of text n.token).bytes k ≡ Ok (y, j)) named_next
-      (subst (λ (b : List ℕ). f b (next (with_name what (here i (n.token ∷ n.rest) at count))) ≡ Ok (y, j)) (spelling_here i n.token n.rest at count) v.1);
+          (subst (λ (b : List ℕ). f b (next (with_name what (here i (n.token ∷ n.rest) at count))) ≡ Ok (y, j)) (spelling_here i n.token n.rest at count) v.1);
     }

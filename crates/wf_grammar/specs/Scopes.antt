@@ -1,5 +1,5 @@
 -- What is declared where a rule of a chart's text begins, and what a declaration adds.
-use Rattle.std.specs.Prelude.{◌≡◌, ◌≤◌, ℕ, List, [], ◌∷◌, ◌++◌, length, Option, None}
+use Rattle.std.specs.Prelude.{◌≡◌, ◌≤◌, ℕ, List, [], ◌∷◌, ◌++◌, length, None}
 use lib.Chars.{codes}
 use Rattle.wf_model.specs.declared.limits.TheConstants.{MAX_NAME}
 use Rattle.wf_model.specs.declared.ids.UnitId.{UnitId}

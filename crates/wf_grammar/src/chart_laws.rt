@@ -1,5 +1,15 @@
 //! Laws of the reader of charts: it reads what the grammar spells, and nothing else.
-ghost use Rattle.wf_grammar.specs.ChartLaws.{ChartReadIsSpelled, ChartSpelledIsRead, DeclarationsReadAreSpelled, DeclarationsSpelledAreRead, RootReadIsSpelled, RootSpelledIsRead, SpellsOneChart, TransitionsReadAreSpelled, TransitionsSpelledAreRead};
+ghost use Rattle.wf_grammar.specs.ChartLaws.{
+  ChartReadIsSpelled,
+  ChartSpelledIsRead,
+  DeclarationsReadAreSpelled,
+  DeclarationsSpelledAreRead,
+  RootReadIsSpelled,
+  RootSpelledIsRead,
+  SpellsOneChart,
+  TransitionsReadAreSpelled,
+  TransitionsSpelledAreRead,
+};
 
 /// Where declarations are read, a front part of the lexemes is declarations by the grammar. The input is then behind them, with
 /// what they declare.
@@ -30,16 +40,16 @@ pub fn declarations_spelled_are_read()
     ensures { DeclarationsSpelledAreRead }
 {}
 
-/// Transitions of the grammar at the front of the lexemes are read, where no transition follows. The input is then behind them,
-/// and nothing more is declared.
-pub fn transitions_spelled_are_read()
-    ensures { TransitionsSpelledAreRead }
-{}
-
 /// A root of the grammar at the front of the lexemes, or none, is read, where no state follows. The input is then behind it, with
 /// the states that it declares.
 pub fn root_spelled_is_read()
     ensures { RootSpelledIsRead }
+{}
+
+/// Transitions of the grammar at the front of the lexemes are read, where no transition follows. The input is then behind them,
+/// and nothing more is declared.
+pub fn transitions_spelled_are_read()
+    ensures { TransitionsSpelledAreRead }
 {}
 
 /// Where the tokens of a text are a text of a chart by the grammar, the text means this chart.

@@ -12,3 +12,13 @@ pub mod Follows
 pub mod SpelledAtoms
 pub mod SpelledRead
 pub mod OneReading
+pub mod Places
+pub mod Declared
+pub mod Moved
+pub mod Drawn
+pub mod ChartRead
+pub mod Giving
+pub mod DeclaredReads
+pub mod MovedReads
+pub mod DrawnReads
+pub mod ChartSpelled

@@ -39,7 +39,7 @@ pub record TookOne {B : Type 0} (i : Input) (p : Piece) (left : List Token) (at 
   pub is : Is p (lexeme_of i.text token)
   pub goes_on : f (here i rest (at + 1) count) ≡ Ok (y, j)
 
-took_one : {B : Type 0} (i : Input) (p : Piece) (left : List Token) (at count : ℕ) (f : Parser B) (y : B) (j : Input)
+pub took_one : {B : Type 0} (i : Input) (p : Piece) (left : List Token) (at count : ℕ) (f : Parser B) (y : B) (j : Input)
     → Seen i p left → f (next (here i left at count)) ≡ Ok (y, j) → TookOne i p left at count f y j
 took_one i p left at count f y j s h =
     let h' : f (next (here i (s.token ∷ s.rest) at count)) ≡ Ok (y, j) = rw s.whole at h in
@@ -78,15 +78,15 @@ pub record TookName {A B : Type 0} (i : Input) (as_this : A → Declared) (left 
   pub goes_on : f value (here i rest (at + 1) count) ≡ Ok (y, j)
 
 -- a name that isn't too long is next
-record NameAhead {B : Type 0} (i : Input) (left : List Token) (at count : ℕ) (f : Parser B) (y : B) (j : Input) : Type 0 where
-  token : Token
-  rest : List Token
-  whole : left ≡ token ∷ rest
-  is_name : Is pieces.Name (lexeme_of i.text token)
-  is_short : length (lexeme_of i.text token).bytes ≤ MAX_NAME
-  goes_on : f (here i (token ∷ rest) at count) ≡ Ok (y, j)
+pub record NameAhead {B : Type 0} (i : Input) (left : List Token) (at count : ℕ) (f : Parser B) (y : B) (j : Input) : Type 0 where
+  pub token : Token
+  pub rest : List Token
+  pub whole : left ≡ token ∷ rest
+  pub is_name : Is pieces.Name (lexeme_of i.text token)
+  pub is_short : length (lexeme_of i.text token).bytes ≤ MAX_NAME
+  pub goes_on : f (here i (token ∷ rest) at count) ≡ Ok (y, j)
 
-name_then : {B : Type 0} (i : Input) (left : List Token) (at count : ℕ) (f : Unit {0} → Parser B) (y : B) (j : Input)
+pub name_then : {B : Type 0} (i : Input) (left : List Token) (at count : ℕ) (f : Unit {0} → Parser B) (y : B) (j : Input)
     → and_then (name_ahead (here i left at count)) f ≡ Ok (y, j) → NameAhead i left at count (f tt) y j
 unfolding name_ahead
 name_then i left at count f y j h =
@@ -105,7 +105,7 @@ name_then i left at count f y j h =
     }
 
 -- what is made of the declaration answers for this kind of name alone
-abbrev Inverts : {A B : Type 0} → (A → Declared) → (Option Declared → Parser A) → (A → Parser B) → B → Input → Type 0
+abbrev pub Inverts : {A B : Type 0} → (A → Declared) → (Option Declared → Parser A) → (A → Parser B) → B → Input → Type 0
 Inverts {A} as_this by f y j = (d : Option Declared) (k : Input) → and_then (by d k) f ≡ Ok (y, j) → (v : A) × (d ≡ Some (as_this v)) × (f v (next k) ≡ Ok (y, j))
 
 took_name : {A B : Type 0} (i : Input) (as_this : A → Declared) (left : List Token) (at count : ℕ) (f : A → Parser B) (g : Parser B) (y : B) (j : Input)
@@ -120,7 +120,7 @@ took_name i as_this left at count f g y j n v is h = record {
   goes_on = subst (λ (k : Input). f v k ≡ Ok (y, j)) (next_here i n.token n.rest at count) h;
 }
 
-name_by : {A B : Type 0} (i : Input) (as_this : A → Declared) (by : Option Declared → Parser A) (left : List Token) (at count : ℕ) (f : A → Parser B) (y : B) (j : Input)
+pub name_by : {A B : Type 0} (i : Input) (as_this : A → Declared) (by : Option Declared → Parser A) (left : List Token) (at count : ℕ) (f : A → Parser B) (y : B) (j : Input)
     → Inverts as_this by f y j → and_then ((name_ahead >> (λ k. by (declared k) k)) (here i left at count)) f ≡ Ok (y, j) → TookName i as_this left at count f y j
 name_by {A} {B} i as_this by left at count f y j inverts h =
     let g : Parser B = λ k. and_then (by (declared k) k) f in
@@ -180,7 +180,7 @@ took_value i p reads left at count f y j s v is h = record {
   goes_on = subst (λ (k : Input). f v k ≡ Ok (y, j)) (next_here i s.token s.rest at count) h;
 }
 
-value_by : {A B : Type 0} (i : Input) (p : Piece) (reads : List ℕ → Option A) (by : Option A → Parser A) (left : List Token) (at count : ℕ) (f : A → Parser B) (y : B) (j : Input)
+pub value_by : {A B : Type 0} (i : Input) (p : Piece) (reads : List ℕ → Option A) (by : Option A → Parser A) (left : List Token) (at count : ℕ) (f : A → Parser B) (y : B) (j : Input)
     → ((d : Option A) (k : Input) → and_then (by d k) f ≡ Ok (y, j) → (v : A) × (d ≡ Some v) × (f v (next k) ≡ Ok (y, j)))
     → and_then (if sees p (here i left at count) then by (reads (spelling (here i left at count))) (here i left at count) else syntax (here i left at count)) f ≡ Ok (y, j)
     → TookValue i p reads left at count f y j
@@ -191,7 +191,7 @@ value_by i p reads by left at count f y j inverts h =
     let v = inverts (reads (spelling (here i (s.token ∷ s.rest) at count))) (here i (s.token ∷ s.rest) at count) h' in
     took_value i p reads left at count f y j s v.0 v.1 v.2
 
-int_inverts : {B : Type 0} (f : ℕ → Parser B) (y : B) (j : Input) (d : Option ℕ) (k : Input) → and_then (int_by d k) f ≡ Ok (y, j) → (n : ℕ) × (d ≡ Some n) × (f n (next k) ≡ Ok (y, j))
+pub int_inverts : {B : Type 0} (f : ℕ → Parser B) (y : B) (j : Input) (d : Option ℕ) (k : Input) → and_then (int_by d k) f ≡ Ok (y, j) → (n : ℕ) × (d ≡ Some n) × (f n (next k) ≡ Ok (y, j))
 int_inverts f y j (Some n) k h = (n, refl, h)
 int_inverts f y j None k h = cc
 

@@ -38,13 +38,13 @@ module _ (i : Input) (t : Token) (rest : List Token) (at count : ℕ) where
       let some : (suc depth == 0) ≡ false = grind (arith, nat_tests) in
       rw (sees_here pieces.OpenParen is) (rw some (ap (λ (k : Input). Ok (tt, k)) (next_here i t rest at count)))
 
-  name_here : (what : Declared) → IsNameOf i.names what (lexeme_of i.text t) → name_ahead (here i (t ∷ rest) at count) ≡ Ok (tt, here i (t ∷ rest) at count)
+  pub name_here : (what : Declared) → IsNameOf i.names what (lexeme_of i.text t) → name_ahead (here i (t ∷ rest) at count) ≡ Ok (tt, here i (t ∷ rest) at count)
   unfolding name_ahead
   name_here what is =
       let short : nat_le (length (spelling (here i (t ∷ rest) at count))) MAX_NAME ≡ true = rw (spelling_here i t rest at count) (is_fit (length (lexeme_of i.text t).bytes) MAX_NAME is.is_short) in
       rw (sees_here pieces.Name is.is_name) (rw short refl)
 
-  declared_is : (what : Declared) → IsNameOf i.names what (lexeme_of i.text t) → declared (here i (t ∷ rest) at count) ≡ Some what
+  pub declared_is : (what : Declared) → IsNameOf i.names what (lexeme_of i.text t) → declared (here i (t ∷ rest) at count) ≡ Some what
   declared_is what is = declared_here i t rest at count ∙ is.is_declared
 
   pub variable_here : (x : VarId) → IsNameOf i.names (declared_as_a.Var x) (lexeme_of i.text t) → input.variable (here i (t ∷ rest) at count) ≡ Ok (x, here i rest (at + 1) count)

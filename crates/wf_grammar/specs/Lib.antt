@@ -1,3 +1,9 @@
 pub mod Lexemes
 pub mod Phrases
 pub mod Laws
+pub mod Scopes
+pub mod Declaring
+pub mod Drawing
+pub mod Moving
+pub mod Charts
+pub mod ChartLaws

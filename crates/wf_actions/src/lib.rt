@@ -1,0 +1,13 @@
+//! What the units did in a step, put together: their writes, raised events and starts.
+#![tactic(auto)]
+
+mod events;
+mod joined;
+mod order;
+#[cfg(test)]
+mod tests;
+mod writes;
+
+pub use events::raised;
+pub use order::starts;
+pub use writes::merge_writes;

@@ -1,8 +1,7 @@
 -- Starts that tie are those of one transition and place.
-use Rattle.std.proofs.Common.{◌≡◌, ℕ, ◌<◌, ◌==◌, ◌&&◌, not, Bool, List, [], ◌∷◌, filter, refl, sym, ◌∙◌, arith}
+use Rattle.std.proofs.Common.{◌≡◌, ℕ, ◌==◌, ◌&&◌, not, Bool, List, [], ◌∷◌, filter, refl, sym, ◌∙◌, arith}
 use Rattle.std.specs.List.Sorted.{ties, IsStableByKey}
-use Rattle.std.specs.Ordering.{is_lt, nat_cmp, ordering_then}
-use Rattle.std.proofs.lemmas.Bool.{cases_order}
+use Rattle.std.specs.Ordering.{is_lt}
 use Rattle.std.proofs.lemmas.Bool.Decides.{nat_tests}
 use Rattle.wf_model.specs.declared.update.StartAt.{StartAt}
 use Rattle.wf_actions.specs.Order.{place_of, place_cmp, is_at}

@@ -1,5 +1,5 @@
 use Rattle.std.proofs.Common.{arith}
-use Rattle.wf_actions.proofs.Winners.{item_below, winners_more, winners_all}
+use Rattle.wf_actions.proofs.Winners.{item_below, winners_all}
 use Rattle.wf_actions.proofs.writes.winners.Goals as goal
 
 pub index-requires : goal.index-requires

@@ -1,3 +1,5 @@
 pub mod Winners
 pub mod United
 pub mod Placed
+pub mod Merging
+pub mod Stored

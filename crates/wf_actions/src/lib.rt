@@ -3,11 +3,13 @@
 
 mod events;
 mod joined;
+mod laws;
 mod order;
 #[cfg(test)]
 mod tests;
 mod writes;
 
 pub use events::raised;
+pub use laws::{cuts_do_not_matter, merged_give_store, merged_reads};
 pub use order::starts;
 pub use writes::merge_writes;

@@ -1,5 +1,5 @@
 -- What merged writes have of each variable, and that cuts make no difference.
-use Rattle.std.proofs.Common.{◌≡◌, ◌⊎◌, ℕ, zero, suc, ◌+◌, ◌-◌, ◌<◌, ◌≤◌, ◌==◌, max, Bool, true, false, cond, List, [], ◌∷◌, ◌++◌, map, filter, fold, filter_map, Option, Some, None, nat_lt, inl, inr, refl, sym, ap, subst, ◌∙◌, arith, eqb-true, eq-eqb}
+use Rattle.std.proofs.Common.{◌≡◌, ◌⊎◌, ℕ, zero, suc, ◌+◌, ◌-◌, ◌<◌, ◌≤◌, ◌==◌, max, Bool, true, false, cond, List, [], ◌∷◌, ◌++◌, map, fold, filter_map, Option, Some, None, nat_lt, inl, inr, refl, sym, ap, subst, ◌∙◌, arith, eqb-true, eq-eqb}
 use Rattle.std.specs.List.{range_with_len, AllByRecursion, cons_option}
 use Rattle.std.specs.List.Sorted.{IsStrictlyIncreasing, IsStrictlySortedBy}
 use Rattle.std.specs.Option.{option_to_list}
@@ -12,11 +12,8 @@ use Rattle.std.proofs.lemmas.Map.Keys.{IsStrictlyIncreasing-from_sorted}
 use Rattle.std.proofs.lemmas.Bool.{cases_lt}
 use Rattle.std.proofs.lemmas.Bool.Decides.{nat_tests}
 use Rattle.wf_model.specs.declared.update.Write.{Write}
-use Rattle.wf_actions.specs.Writes.{over, winner, past_variables, merged}
+use Rattle.wf_actions.specs.Writes.{of_variable, over, winner, past_variables, merged}
 use Rattle.wf_actions.proofs.Winners.{above_start}
-
-abbrev pub of_variable : ℕ → List Write → List Write
-of_variable x ws = filter (λ write. write.var.0 == x) ws
 
 -- what stays of the writes of x is a write of x
 abbrev Of : ℕ → Option Write → Type 0

@@ -1,5 +1,5 @@
 -- The merged writes of fired transitions, put into the store.
-use Rattle.std.proofs.Common.{◌≡◌, ℕ, suc, ◌+◌, ◌<◌, ◌≤◌, ◌==◌, Bool, true, false, cond, List, [], ◌∷◌, ◌++◌, length, get_or, set, fold, filter_map, Option, Some, None, Ok, Err, Result, nat_lt, refl, sym, ap, subst, ◌∙◌, arith, eqb-true}
+use Rattle.std.proofs.Common.{◌≡◌, ℕ, ◌+◌, ◌<◌, ◌≤◌, ◌==◌, Bool, true, false, cond, List, [], ◌∷◌, ◌++◌, length, get_or, set, fold, filter_map, Option, Some, None, Ok, Err, Result, nat_lt, refl, sym, ap, ◌∙◌, arith, eqb-true}
 use Rattle.std.specs.List.{cons_option}
 use Rattle.std.specs.List.Sorted.{IsStrictlyIncreasing}
 use Rattle.std.specs.Option.{option_to_list, option_map_or}
@@ -15,9 +15,11 @@ use Rattle.wf_model.specs.declared.update.Write.{Write}
 use Rattle.wf_model.specs.Values.{value_of}
 use Rattle.wf_semantics.specs.Snapshot.{Snapshot}
 use Rattle.wf_semantics.specs.Effects.{actions_of, after_action, after_actions, after_fired}
-use Rattle.wf_actions.specs.Writes.{over, winner, merged}
+use Rattle.wf_actions.specs.Writes.{of_variable, by_transition, over, winner, merged}
 use Rattle.wf_actions.specs.Store.{write_of, writes_of, after_writes}
-use Rattle.wf_actions.proofs.Merging.{of_variable, merged_of}
+use Rattle.wf_actions.proofs.Merging.{merged_of, merged_same}
+use Rattle.wf_actions.proofs.Ranked.{same_winner}
+use Rattle.wf_actions.proofs.Ascending.{Ascends, ascends_from}
 
 -- the central run's store is that of its writes in order
 after_append : (ws vs : List Write) (store : List Val) → after_writes (ws ++ vs) store ≡ after_writes vs (after_writes ws store)
@@ -99,10 +101,6 @@ one_value None first = refl
 one_value (Some w) first = refl
 
 -- the fired transitions ascend, and so do those of their writes
-abbrev Ascends : ℕ → List ℕ → Type 0
-Ascends lo [] = Unit {0}
-Ascends lo (t ∷ ts) = (lo ≤ t) × Ascends t ts
-
 block_rises : (snap : Snapshot) (t lo : ℕ) (acts : List Action) (rest : List Write) → lo ≤ t → Rises t rest → Rises lo (filter_map (write_of snap t) acts ++ rest)
 block_rises snap t lo [] rest l r = rises_weaker lo t rest l r
 block_rises snap t lo (Raise e ∷ acts) rest l r = block_rises snap t lo acts rest l r
@@ -118,17 +116,10 @@ block_rises snap t lo (Assign x value ∷ acts) rest l r =
 writes_rise : (chart : Chart) (snap : Snapshot) (lo : ℕ) (fired : List ℕ) → Ascends lo fired → Rises lo (writes_of chart snap fired)
 writes_rise chart snap lo [] a = tt
 writes_rise chart snap lo (t ∷ ts) a =
-    block_rises snap t lo (actions_of chart t) (writes_of chart snap ts) a.0 (writes_rise chart snap t ts a.1)
+    block_rises snap t lo (actions_of chart t) (writes_of chart snap ts) a.0
+    (rises_weaker t (t + 1) (writes_of chart snap ts) (omega arith) (writes_rise chart snap (t + 1) ts a.1))
 
-ascends_from : (lo : ℕ) (ts : List ℕ) → (0 < length ts → lo ≤ get_or ts 0 0) → IsStrictlyIncreasing ts → Ascends lo ts
-ascends_from lo [] h up = tt
-ascends_from lo (t ∷ ts) h up =
-    (h (omega arith), ascends_from t ts (λ l. let next = up 0 (omega arith) in omega arith) (λ k l. step k (up (suc k) (omega arith))))
-  where
-    step : (k : ℕ) → get_or (t ∷ ts) (suc k) 0 < get_or (t ∷ ts) (suc k + 1) 0 → get_or ts k 0 < get_or ts (k + 1) 0
-    step k h = let e : suc k + 1 ≡ suc (k + 1) = omega arith in subst (λ (m : ℕ). get_or ts k 0 < get_or (t ∷ ts) m 0) e h
-
-pub merged_store : (chart : Chart) (snap : Snapshot) (fired : List ℕ) (store : List Val) → IsStrictlyIncreasing fired → after_writes (merged (writes_of chart snap fired)) store ≡ after_fired chart snap fired store
+merged_store : (chart : Chart) (snap : Snapshot) (fired : List ℕ) (store : List Val) → IsStrictlyIncreasing fired → after_writes (merged (writes_of chart snap fired)) store ≡ after_fired chart snap fired store
 merged_store chart snap fired store up =
     let ws : List Write = writes_of chart snap fired in
     let rise : Rises 0 ws = writes_rise chart snap 0 fired (ascends_from 0 fired (λ l. omega arith) up) in
@@ -142,3 +133,8 @@ merged_store chart snap fired store up =
     ∙ sym (last_wins 0 (of_variable x ws) (get_or store x d) (rises_filter x 0 ws rise))
     ∙ sym (read_after ws store x d h))
     ∙ fired_store chart snap fired store
+
+pub shares_store : (chart : Chart) (snap : Snapshot) (fired : List ℕ) (writes : List Write) (store : List Val) → IsStrictlyIncreasing fired → ((t : ℕ) → by_transition t writes ≡ by_transition t (writes_of chart snap fired)) → after_writes (merged writes) store ≡ after_fired chart snap fired store
+shares_store chart snap fired writes store up same =
+    let ws : List Write = writes_of chart snap fired in
+    ap (λ (l : List Write). after_writes l store) (merged_same writes ws (same_winner writes ws same)) ∙ merged_store chart snap fired store up

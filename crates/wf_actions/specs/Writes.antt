@@ -8,9 +8,16 @@ abbrev pub over : Option Write → Write → Option Write
 over None write = Some write
 over (Some earlier) write = if nat_lt write.trans.0 earlier.trans.0 then Some earlier else Some write
 
+-- the writes of variable x, and those by transition t, in order
+abbrev pub of_variable : ℕ → List Write → List Write
+of_variable x writes = filter (λ write. write.var.0 == x) writes
+
+abbrev pub by_transition : ℕ → List Write → List Write
+by_transition t writes = filter (λ write. write.trans.0 == t) writes
+
 -- the write of variable x that stays
 abbrev pub winner : ℕ → List Write → Option Write
-winner x writes = fold over None (filter (λ write. write.var.0 == x) writes)
+winner x writes = fold over None (of_variable x writes)
 
 -- one past the greatest number of a variable that is written
 abbrev pub past_variables : List Write → ℕ

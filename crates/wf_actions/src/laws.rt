@@ -1,9 +1,14 @@
-//! Laws of merged writes.
-ghost use Rattle.wf_actions.specs.Laws.{MergedReads, CutsDoNotMatter, MergedGiveStore};
+//! Laws of merged writes, and of the union of events.
+ghost use Rattle.wf_actions.specs.Laws.{MergedReads, WinnerGoesByRule, CutsDoNotMatter, SharesGiveStore, UnionIsOne};
 
 /// Merged writes ascend by variable, and have of each variable just the write that stays.
 pub fn merged_reads()
     ensures { MergedReads }
+{}
+
+/// The write of a variable that stays is by the transition of greatest number that writes it, and is the last by that one.
+pub fn winner_goes_by_rule()
+    ensures { WinnerGoesByRule }
 {}
 
 /// Writes that are merged in two cuts are the same as in one.
@@ -11,7 +16,13 @@ pub fn cuts_do_not_matter()
     ensures { CutsDoNotMatter }
 {}
 
-/// The merged writes of the fired transitions give the store that follows in the central run.
-pub fn merged_give_store()
-    ensures { MergedGiveStore }
+/// The merged writes of the fired transitions give the store that follows in the central run, in whichever order the shares of
+/// the step come.
+pub fn shares_give_store()
+    ensures { SharesGiveStore }
+{}
+
+/// Lists that ascend and have the same members are equal, so a union of events doesn't depend on how they are cut into lists.
+pub fn union_is_one()
+    ensures { UnionIsOne }
 {}

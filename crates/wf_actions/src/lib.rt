@@ -10,6 +10,8 @@ mod tests;
 mod writes;
 
 pub use events::raised;
-pub use laws::{cuts_do_not_matter, merged_give_store, merged_reads};
+pub use laws::{
+    cuts_do_not_matter, merged_reads, shares_give_store, union_is_one, winner_goes_by_rule,
+};
 pub use order::starts;
 pub use writes::merge_writes;

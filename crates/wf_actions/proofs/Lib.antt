@@ -5,3 +5,4 @@ pub mod Merging
 pub mod Ranked
 pub mod Ascending
 pub mod Stored
+pub mod Started

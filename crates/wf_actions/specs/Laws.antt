@@ -1,14 +1,16 @@
--- Laws of merged writes, and of the union of events.
-use Rattle.std.specs.Prelude.{ℕ, ◌≡◌, ◌++◌, ◌<◌, ◌↔◌, List, [], map, Contains, Some, None}
+-- Laws of merged writes, of the union of events and of ordered starts.
+use Rattle.std.specs.Prelude.{ℕ, ◌≡◌, ◌++◌, ◌<◌, ◌↔◌, List, [], map, filter, Contains, Some, None}
 use Rattle.std.specs.List.{last_or}
 use Rattle.std.specs.Option.{option_to_list}
-use Rattle.std.specs.List.Sorted.{IsStrictlyIncreasing}
+use Rattle.std.specs.List.Sorted.{IsStrictlyIncreasing, IsSortedByKey}
 use Rattle.wf_model.specs.declared.chart.Chart.{Chart}
 use Rattle.wf_model.specs.declared.value.Val.{Val}
 use Rattle.wf_model.specs.declared.update.Write.{Write}
+use Rattle.wf_model.specs.declared.update.StartAt.{StartAt}
 use Rattle.wf_semantics.specs.Snapshot.{Snapshot}
-use Rattle.wf_semantics.specs.Effects.{after_fired}
+use Rattle.wf_semantics.specs.Effects.{after_fired, starts_of}
 use Rattle.wf_actions.specs.Writes.{of_variable, by_transition, winner, merged}
+use Rattle.wf_actions.specs.Order.{place_of, place_cmp, is_at}
 use Rattle.wf_actions.specs.Store.{after_writes, writes_of}
 
 -- merged writes ascend by variable, and have of each variable just the write that stays
@@ -41,3 +43,11 @@ SharesGiveStore =
 abbrev pub UnionIsOne : Type 0
 UnionIsOne =
     (xs ys : List ℕ) → IsStrictlyIncreasing xs → IsStrictlyIncreasing ys → ((e : ℕ) → Contains xs e ↔ Contains ys e) → xs ≡ ys
+
+-- starts that are in order, and have at each transition and place those of the fired transitions, are the starts of the
+-- central run's step
+abbrev pub SharesGiveStarts : Type 0
+SharesGiveStarts =
+    (chart : Chart) (fired : List ℕ) (starts : List StartAt) → IsStrictlyIncreasing fired → IsSortedByKey place_of place_cmp starts →
+    ((t place : ℕ) → filter (is_at t place) starts ≡ filter (is_at t place) (starts_of chart fired)) →
+    starts ≡ starts_of chart fired

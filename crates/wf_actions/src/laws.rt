@@ -1,5 +1,5 @@
-//! Laws of merged writes, and of the union of events.
-ghost use Rattle.wf_actions.specs.Laws.{MergedReads, WinnerGoesByRule, CutsDoNotMatter, SharesGiveStore, UnionIsOne};
+//! Laws of merged writes, of the union of events and of ordered starts.
+ghost use Rattle.wf_actions.specs.Laws.{MergedReads, WinnerGoesByRule, CutsDoNotMatter, SharesGiveStore, UnionIsOne, SharesGiveStarts};
 
 /// Merged writes ascend by variable, and have of each variable just the write that stays.
 pub fn merged_reads()
@@ -25,4 +25,10 @@ pub fn shares_give_store()
 /// Lists that ascend and have the same members are equal, so a union of events doesn't depend on how they are cut into lists.
 pub fn union_is_one()
     ensures { UnionIsOne }
+{}
+
+/// Starts that are in order, and have at each transition and place those of the fired transitions, are the starts of the central
+/// run's step, in whichever lists they came.
+pub fn shares_give_starts()
+    ensures { SharesGiveStarts }
 {}

@@ -7,10 +7,10 @@ use std::alloc::Global;
 use wf_model::{List, NoMemory, Write};
 
 /// Adds writes to those that were collected so far. Of the writes of one variable that of the
-/// greatest transition number stays, and of equal numbers the latest. Before, `into` is empty or
-/// what this call made of it; afterwards it has at most one write for each variable, ascending by
-/// variable. So it makes no difference in how many calls writes are added, as long as each
-/// transition's stay in order. After `NoMemory` it is as before.
+/// greatest transition number stays, and of equal numbers the latest, where `more` is later than
+/// what `into` has. Afterwards `into` has one write for each variable that is written, ascending
+/// by variable. So it makes no difference in how many calls writes are added, nor in which order
+/// those of different transitions come. After `NoMemory` it is as before.
 ///
 /// In linear time in the number of writes and the greatest number of a variable.
 pub fn merge_writes(alloc: Global, into: &mut List<Write>, more: &[Write]) -> Result<(), NoMemory>

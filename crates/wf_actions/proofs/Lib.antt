@@ -6,3 +6,4 @@ pub mod Ranked
 pub mod Ascending
 pub mod Stored
 pub mod Started
+pub mod Raising

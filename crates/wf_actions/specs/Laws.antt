@@ -3,13 +3,15 @@ use Rattle.std.specs.Prelude.{ℕ, ◌≡◌, ◌++◌, ◌<◌, ◌↔◌, List
 use Rattle.std.specs.List.{last_or}
 use Rattle.std.specs.Option.{option_to_list}
 use Rattle.std.specs.List.Sorted.{IsStrictlyIncreasing, IsSortedByKey}
+use Rattle.wf_model.specs.declared.ids.EventId.{EventId}
 use Rattle.wf_model.specs.declared.chart.Chart.{Chart}
 use Rattle.wf_model.specs.declared.value.Val.{Val}
 use Rattle.wf_model.specs.declared.update.Write.{Write}
 use Rattle.wf_model.specs.declared.update.StartAt.{StartAt}
 use Rattle.wf_semantics.specs.Snapshot.{Snapshot}
-use Rattle.wf_semantics.specs.Effects.{after_fired, starts_of}
+use Rattle.wf_semantics.specs.Effects.{after_fired, raised_by, starts_of}
 use Rattle.wf_actions.specs.Writes.{of_variable, by_transition, winner, merged}
+use Rattle.wf_actions.specs.Events.{numbers_of}
 use Rattle.wf_actions.specs.Order.{place_of, place_cmp, is_at}
 use Rattle.wf_actions.specs.Store.{after_writes, writes_of}
 
@@ -43,6 +45,13 @@ SharesGiveStore =
 abbrev pub UnionIsOne : Type 0
 UnionIsOne =
     (xs ys : List ℕ) → IsStrictlyIncreasing xs → IsStrictlyIncreasing ys → ((e : ℕ) → Contains xs e ↔ Contains ys e) → xs ≡ ys
+
+-- events that ascend and have the members of those that fired transitions raise, are the raised events of the central run's step
+abbrev pub SharesGiveRaised : Type 0
+SharesGiveRaised =
+    (chart : Chart) (snap : Snapshot) (fired : List ℕ) (events : List EventId) → IsStrictlyIncreasing (numbers_of events) →
+    ((e : ℕ) → Contains (numbers_of events) e ↔ Contains (numbers_of (raised_by chart snap fired)) e) →
+    events ≡ raised_by chart snap fired
 
 -- starts that are in order, and have at each transition and place those of the fired transitions, are the starts of the
 -- central run's step

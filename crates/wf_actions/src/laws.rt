@@ -1,5 +1,5 @@
 //! Laws of merged writes, of the union of events and of ordered starts.
-ghost use Rattle.wf_actions.specs.Laws.{MergedReads, WinnerGoesByRule, CutsDoNotMatter, SharesGiveStore, UnionIsOne, SharesGiveStarts};
+ghost use Rattle.wf_actions.specs.Laws.{MergedReads, WinnerGoesByRule, CutsDoNotMatter, SharesGiveStore, UnionIsOne, SharesGiveRaised, SharesGiveStarts};
 
 /// Merged writes ascend by variable, and have of each variable just the write that stays.
 pub fn merged_reads()
@@ -25,6 +25,12 @@ pub fn shares_give_store()
 /// Lists that ascend and have the same members are equal, so a union of events doesn't depend on how they are cut into lists.
 pub fn union_is_one()
     ensures { UnionIsOne }
+{}
+
+/// Events that ascend and have the members of those that fired transitions raise, are the raised events of the central run's
+/// step.
+pub fn shares_give_raised()
+    ensures { SharesGiveRaised }
 {}
 
 /// Starts that are in order, and have at each transition and place those of the fired transitions, are the starts of the central

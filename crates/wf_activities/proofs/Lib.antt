@@ -1,0 +1,4 @@
+pub mod Joined
+pub mod Counting
+pub mod Wanted
+pub mod Completed

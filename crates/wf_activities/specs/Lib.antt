@@ -1,0 +1,2 @@
+pub mod UnitItems
+pub mod Completing

@@ -74,9 +74,6 @@ in_table [] a h = absurd (omega arith)
 in_table (c ∷ cs) zero h = omega arith
 in_table (c ∷ cs) (suc a) h = let r : a < length cs = in_table cs a h in omega arith
 
-pub kept_none : AreKept [] [] []
-kept_none = record { bits = refl; counted = λ a. refl }
-
 pub kept_grow : (ss fs : List (ActId × ℕ)) (bs : List Bool) (counts after : List ℕ) → AreKept ss bs counts → ((a : ℕ) → get_or after a 0 ≡ get_or counts a 0 + starts_count a fs)
     → AreKept (ss ++ fs) (bs ++ replicate (length fs) false) after
 kept_grow ss fs bs counts after kept made = record {

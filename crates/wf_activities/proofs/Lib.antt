@@ -2,3 +2,4 @@ pub mod Joined
 pub mod Counting
 pub mod Wanted
 pub mod Completed
+pub mod LawsHold

@@ -1,2 +1,3 @@
 pub mod UnitItems
 pub mod Completing
+pub mod Laws

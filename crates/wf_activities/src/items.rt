@@ -77,7 +77,7 @@ impl Items {
         outputs: &[Output],
         wanted: &[(VarId, Sort)],
     ) -> Result<(), OuterFault>
-        ensures result_is { result ≡ may_complete self.now.items item act outputs.now wanted.now }
+        ensures answer { result ≡ may_complete self.now.items item act outputs.now wanted.now }
         ensures passed { OnOk result (IsTrue (is_open (item_at self.now.items item))) }
     {
         let Some((of, closed)) = self.find(item) else {
@@ -132,9 +132,9 @@ impl Items {
         if item == 0 {
             return None;
         }
-        let at = item as usize - 1;
-        if at < self.started.len() {
-            Some((self.started[at].0, self.closed[at]))
+        let place = item as usize - 1;
+        if place < self.started.len() {
+            Some((self.started[place].0, self.closed[place]))
         } else {
             None
         }

@@ -3,7 +3,14 @@
 
 mod counts;
 mod items;
+mod laws;
 mod outputs;
 mod starts;
+#[cfg(test)]
+mod tests;
 
 pub use items::Items;
+pub use laws::{
+    closed_stays_closed, closes_one, completes_by_admission, counts_open_items, grows_by_step,
+    keeps_numbers,
+};

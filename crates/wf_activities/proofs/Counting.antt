@@ -1,11 +1,12 @@
 -- How the counts of open items follow starts and completions.
-use Rattle.std.proofs.Common.{◌≡◌, ◌≢◌, ℕ, zero, suc, ◌+◌, ◌-◌, ◌<◌, ◌≤◌, ◌==◌, ◌&&◌, not, Bool, true, false, List, [], ◌∷◌, ◌++◌, length, replicate, take, get_or, set, Some, None, refl, sym, ◌∙◌, ap, ap₂, subst, arith, eq-eqb, eqb-true, true≢false, length-append, length-set, length-take, get_or-set_other}
+use Rattle.std.proofs.Common.{◌≡◌, ◌≢◌, ℕ, zero, suc, ◌+◌, ◌-◌, ◌<◌, ◌≤◌, ◌==◌, ◌&&◌, not, cond, Bool, true, false, List, [], ◌∷◌, ◌++◌, length, replicate, take, get_or, set, Some, None, refl, sym, ◌∙◌, ap, ap₂, subst, arith, eq-eqb, eqb-true, true≢false, length-append, length-set, length-take, get_or-set_other}
 use Rattle.std.specs.List.{slice_get}
 use Rattle.std.proofs.lemmas.List.{take_more, length-replicate}
 use Rattle.std.proofs.lemmas.Grind.{get_or-set_at}
 use Rattle.wf_model.specs.declared.ids.ActId.{ActId}
+use Rattle.wf_model.specs.declared.update.StartAt.{StartAt}
 use Rattle.wf_semantics.specs.Items.{Item, one, open_count, close}
-use Rattle.wf_activities.specs.UnitItems.{is_open, items_from, starts_count, AreKept}
+use Rattle.wf_activities.specs.UnitItems.{is_open, is_listed, listed, at_step, items_from, starts_count, AreKept}
 use Rattle.wf_activities.proofs.Joined.{get_item, close_items, items_append}
 
 pub one_few : (b : Bool) → one b ≤ 1
@@ -44,6 +45,45 @@ starts_more a fs i d lt = omega (arith, ap (starts_count a) (take_more fs i d lt
 -- fewer starts than there are before the last
 pub starts_below : (a : ℕ) (fs : List (ActId × ℕ)) (i : ℕ) → i < length fs → starts_count a (take i fs) < length fs
 starts_below a fs i lt = omega (arith, starts_few a (take i fs), length-take i fs)
+
+-- a start is counted
+pub starts_some : (fs : List (ActId × ℕ)) (i : ℕ) (d : ActId × ℕ) → i < length fs → 0 < starts_count (get_or fs i d).0.0 fs
+starts_some [] i d lt = absurd (omega arith)
+starts_some (f ∷ fs) zero d lt = let own : one (f.0.0 == f.0.0) ≡ 1 = ap one (eq-eqb f.0.0 f.0.0 refl) in omega (arith, own)
+starts_some (f ∷ fs) (suc i) d lt = let r : 0 < starts_count (get_or fs i d).0.0 fs = starts_some fs i d (omega arith) in omega arith
+
+-- one start counted in the table
+pub counted_more : (counts : List ℕ) (fs : List (ActId × ℕ)) (before : ℕ → ℕ) (i : ℕ) (d : ActId × ℕ) (m : ℕ) → i < length fs → (get_or fs i d).0.0 < length counts
+    → m ≡ get_or counts (get_or fs i d).0.0 0 → ((a : ℕ) → get_or counts a 0 ≡ before a + starts_count a (take i fs))
+    → (a : ℕ) → get_or (set counts (get_or fs i d).0.0 (m + 1)) a 0 ≡ before a + starts_count a (take (i + 1) fs)
+counted_more counts fs before i d m lt within e made a = go ((get_or fs i d).0.0 == a) refl
+  where
+    go : (p : Bool) → ((get_or fs i d).0.0 == a) ≡ p → get_or (set counts (get_or fs i d).0.0 (m + 1)) a 0 ≡ before a + starts_count a (take (i + 1) fs)
+    go true q =
+        let same : (get_or fs i d).0.0 ≡ a = eqb-true (get_or fs i d).0.0 a q in
+        let now : get_or (set counts (get_or fs i d).0.0 (m + 1)) a 0 ≡ m + 1 = get_or-set_at counts (get_or fs i d).0.0 a (m + 1) 0 (sym same) within in
+        let was : m ≡ get_or counts a 0 = e ∙ ap (λ (k : ℕ). get_or counts k 0) same in
+        let own : one ((get_or fs i d).0.0 == a) ≡ 1 = ap one q in
+        omega (arith, now, was, own, made a, starts_more a fs i d lt)
+    go false q =
+        let other : a ≢ (get_or fs i d).0.0 = λ r. true≢false (sym (eq-eqb (get_or fs i d).0.0 a (sym r)) ∙ q) in
+        let own : one ((get_or fs i d).0.0 == a) ≡ 0 = ap one q in
+        omega (arith, get_or-set_other counts (get_or fs i d).0.0 a (m + 1) 0 other, own, made a, starts_more a fs i d lt)
+
+-- what is started is listed
+pub started_listed : (a step : ℕ) (acts : List ActId) (ls : List StartAt) → 0 < starts_count a (at_step step (listed acts ls)) → is_listed acts a ≡ true
+started_listed a step acts [] h = absurd (omega arith)
+started_listed a step acts (l ∷ ls) h = go (is_listed acts l.act.0) refl h (λ k. started_listed a step acts ls k)
+  where
+    own : (p : Bool) → (l.act.0 == a) ≡ p → is_listed acts l.act.0 ≡ true → 0 < one (l.act.0 == a) + starts_count a (at_step step (listed acts ls))
+        → (0 < starts_count a (at_step step (listed acts ls)) → is_listed acts a ≡ true) → is_listed acts a ≡ true
+    own true q e k ih = ap (is_listed acts) (sym (eqb-true l.act.0 a q)) ∙ e
+    own false q e k ih = ih (omega (arith, ap one q))
+
+    go : (p : Bool) → is_listed acts l.act.0 ≡ p → 0 < starts_count a (at_step step (cond p (l ∷ listed acts ls) (listed acts ls)))
+        → (0 < starts_count a (at_step step (listed acts ls)) → is_listed acts a ≡ true) → is_listed acts a ≡ true
+    go true e k ih = own (l.act.0 == a) refl e k ih
+    go false e k ih = ih k
 
 open_at : (items : List Item) (k : ℕ) (x : Item) → slice_get items k ≡ Some x → is_open (slice_get items k) ≡ true → x.closed ≡ false
 open_at items k x e h = go x.closed refl

@@ -1,14 +1,14 @@
 -- Items as they are kept: what was started, beside the bits that say what is closed.
-use Rattle.std.proofs.Common.{◌≡◌, ℕ, zero, suc, ◌-◌, ◌<◌, ◌≤◌, Bool, true, false, List, [], ◌∷◌, ◌++◌, length, map, replicate, get_or, set, Option, Some, None, refl, sym, ◌∙◌, ap, ap₂, arith, true≢false}
+use Rattle.std.proofs.Common.{◌≡◌, ℕ, zero, suc, ◌-◌, ◌<◌, ◌≤◌, Bool, true, false, List, [], ◌∷◌, ◌++◌, length, map, replicate, take, drop, get_or, set, Option, Some, None, refl, sym, ◌∙◌, ap, ap₂, arith, true≢false, length-append}
 use Rattle.std.specs.List.{slice_get, zip}
-use Rattle.std.proofs.lemmas.List.{map-append}
+use Rattle.std.proofs.lemmas.List.{map-append, drop_at, take_all}
 use Rattle.std.proofs.lemmas.Simd.{map-map}
 use Rattle.std.specs.Option.{option_map}
 use Rattle.std.proofs.lemmas.Option.{slice_get_past}
 use Rattle.wf_model.specs.declared.ids.ActId.{ActId}
 use Rattle.wf_model.specs.declared.update.StartAt.{StartAt}
 use Rattle.wf_semantics.specs.Items.{Item, new_item, item_at, close}
-use Rattle.wf_activities.specs.UnitItems.{is_open, items_from}
+use Rattle.wf_activities.specs.UnitItems.{at_step, is_open, items_from}
 
 abbrev made : ActId × ℕ → Bool → Item
 made s b = record { act = s.0; closed = b }
@@ -48,10 +48,7 @@ items_append [] fs (b ∷ bs) cs e = absurd (omega arith)
 items_append (s ∷ ss) fs [] cs e = absurd (omega arith)
 items_append (s ∷ ss) fs (b ∷ bs) cs e = ap (λ (l : List Item). made s b ∷ l) (items_append ss fs bs cs (omega arith))
 
--- a step's starts
-abbrev pub at_step : ℕ → List StartAt → List (ActId × ℕ)
-at_step step ls = map (λ s. (s.act, step)) ls
-
+-- what a step starts
 pub fresh_items : (step : ℕ) (ls : List StartAt) → items_from (at_step step ls) (replicate (length (at_step step ls)) false) ≡ map (λ s. new_item s.act) ls
 fresh_items step [] = refl
 fresh_items step (l ∷ ls) = ap (λ (r : List Item). new_item l.act ∷ r) (fresh_items step ls)
@@ -102,3 +99,9 @@ grown_items ss fs ts bs cs step ls e hf ht hc =
 pub grown_steps : (ss fs ts : List (ActId × ℕ)) (step : ℕ) (ls : List StartAt) → fs ≡ at_step step ls → ts ≡ ss ++ fs → map (λ s. s.1) ts ≡ map (λ s. s.1) ss ++ map (λ s. step) ls
 grown_steps ss fs ts step ls hf ht =
     ap (λ (l : List (ActId × ℕ)). map (λ (s : ActId × ℕ). s.1) l) (ht ∙ ap (λ (l : List (ActId × ℕ)). ss ++ l) hf) ∙ steps_append ss step ls
+
+-- what stands behind a list
+pub new_part : (ss fs ts : List (ActId × ℕ)) (n : ℕ) → n ≡ length ss → ts ≡ ss ++ fs → take (length ts - n) (drop n ts) ≡ fs
+new_part ss fs ts n e h =
+    let behind : drop n ts ≡ fs = ap (drop n) h ∙ drop_at ss fs n (sym e) in
+    ap (take (length ts - n)) behind ∙ take_all (length ts - n) fs (omega (arith, e, ap length h, length-append ss fs))

@@ -30,6 +30,10 @@ is_listed acts a = list_any (λ x. x.0 == a) acts
 abbrev pub listed : List ActId → List StartAt → List StartAt
 listed acts starts = filter (λ s. is_listed acts s.act.0) starts
 
+-- starts, each with the step
+abbrev pub at_step : ℕ → List StartAt → List (ActId × ℕ)
+at_step step starts = map (λ s. (s.act, step)) starts
+
 -- HOW ITEMS ARE KEPT
 
 -- items, from what was started and which of it is closed

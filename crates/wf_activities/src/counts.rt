@@ -1,33 +1,41 @@
 //! How many items of each activity are open, by its number.
-ghost use Rattle.std.specs.Prelude.{◌≡◌, ℕ, ◌+◌, ◌==◌, ◌<◌, ◌^◌, length, map, slice_index, IfOk, OnOk};
-ghost use Rattle.wf_semantics.specs.Items.{one};
-ghost use Rattle.wf_activities.specs.UnitItems.{starts_count};
+ghost use Rattle.std.specs.Prelude.{◌≡◌, ℕ, ◌+◌, ◌<◌, ◌≤◌, ◌^◌, true, length, slice_index, OnOk};
+ghost use Rattle.wf_activities.specs.UnitItems.{is_listed, starts_count};
 
-use std::alloc::Global;
 use wf_model::{ActId, NoMemory};
 
-// One more of an activity. The table grows to its number.
-fn count_one(counts: &mut Vec<u32>, act: ActId) -> Result<(), NoMemory>
-    requires { slice_index counts.old.items act.0 + 1 < 2 ^ 32 }
-    ensures { OnOk result ((a : ℕ) → slice_index counts.new.items a ≡ slice_index counts.old.items a + one (act.0 == a)) }
+// Makes the table reach to an activity.
+fn reach(counts: &mut Vec<u32>, act: ActId) -> Result<(), NoMemory>
+    ensures same { (a : ℕ) → slice_index counts.new.items a ≡ slice_index counts.old.items a }
+    ensures longer { length counts.old.items ≤ length counts.new.items }
+    ensures wide { OnOk result (act.0 < length counts.new.items) }
 {
     let at = act.0 as usize;
     if counts.len() <= at {
         counts.resize(at + 1, 0)?;
     }
-    counts[at] += 1;
     Ok(())
 }
 
-/// The counts once these starts are made. Grows with these and with the table, which is as long as the greatest number of an
-/// activity that was started.
-pub fn counted(alloc: Global, counts: &[u32], fresh: &[(ActId, u32)]) -> Result<Vec<u32>, NoMemory>
-    requires { (a : ℕ) → slice_index counts.now a + length fresh.now < 2 ^ 32 }
-    ensures { IfOk result (λ made. (a : ℕ) → slice_index made.items a ≡ slice_index counts.now a + starts_count a fresh.now) }
+/// Makes the table reach to these activities. What it counts stays, with memory and without. Grows with the activities, and
+/// with the greatest of their numbers where the table is shorter.
+pub fn widen(counts: &mut Vec<u32>, acts: &[ActId]) -> Result<(), NoMemory>
+    ensures same { (a : ℕ) → slice_index counts.new.items a ≡ slice_index counts.old.items a }
+    ensures wide { OnOk result ((a : ℕ) → is_listed acts.now a ≡ true → a < length counts.new.items) }
 {
-    let mut made = Vec::from_slice(alloc, counts)?;
-    for start in fresh {
-        count_one(&mut made, start.0)?;
+    for act in acts {
+        reach(counts, *act)?;
     }
-    Ok(made)
+    Ok(())
+}
+
+/// Counts these starts. Grows with them. Takes no memory.
+pub fn count_all(counts: &mut Vec<u32>, fresh: &[(ActId, u32)])
+    requires wide { (a : ℕ) → 0 < starts_count a fresh.now → a < length counts.old.items }
+    requires room { (a : ℕ) → slice_index counts.old.items a + length fresh.now < 2 ^ 32 }
+    ensures { (a : ℕ) → slice_index counts.new.items a ≡ slice_index counts.old.items a + starts_count a fresh.now }
+{
+    for start in fresh {
+        counts[start.0.0 as usize] += 1;
+    }
 }

@@ -49,7 +49,6 @@ impl Items {
     /// activities. After `NoMemory` the items are as before.
     pub fn grow(
         &mut self,
-        alloc: Global,
         chart_unit_acts: &[ActId],
         step: u32,
         starts: &[StartAt],
@@ -60,10 +59,16 @@ impl Items {
         ensures steps { OnOk result (self.new.steps ≡ self.old.steps ++ map (λ s. step) (listed chart_unit_acts.now starts.now)) }
         ensures err { OnErr result (self.new ≡ self.old) }
     {
-        let fresh = starts::starts_in(alloc, chart_unit_acts, step, starts)?;
-        let counts = counts::counted(alloc, self.counts.as_slice(), fresh.as_slice())?;
-        starts::append(&mut self.started, &mut self.closed, fresh.as_slice())?;
-        self.counts = counts;
+        let before = self.started.len();
+        counts::widen(&mut self.counts, chart_unit_acts)?;
+        starts::append(
+            &mut self.started,
+            &mut self.closed,
+            chart_unit_acts,
+            step,
+            starts,
+        )?;
+        counts::count_all(&mut self.counts, &self.started.as_slice()[before..]);
         Ok(())
     }
 

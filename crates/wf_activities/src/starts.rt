@@ -1,8 +1,7 @@
 //! The starts of a step that are a unit's own.
-ghost use Rattle.std.specs.Prelude.{◌≡◌, ◌+◌, ◌<◌, ◌^◌, ◌++◌, false, length, map, replicate, IfOk, OnOk, OnErr};
-ghost use Rattle.wf_activities.specs.UnitItems.{is_listed, listed};
+ghost use Rattle.std.specs.Prelude.{◌≡◌, ◌++◌, false, length, take, replicate, OnOk, OnErr};
+ghost use Rattle.wf_activities.specs.UnitItems.{is_listed, listed, at_step};
 
-use std::alloc::Global;
 use wf_model::{ActId, NoMemory, StartAt};
 
 fn is_listed(acts: &[ActId], act: ActId) -> bool
@@ -11,42 +10,48 @@ fn is_listed(acts: &[ActId], act: ActId) -> bool
     acts.iter().any(|a| a.0 == act.0)
 }
 
-/// The starts of the listed activities, each with the step.
-pub fn starts_in(
-    alloc: Global,
+// Adds the starts of the listed activities, each with the step. After `NoMemory` some of them may have been added.
+fn push_listed(
+    started: &mut Vec<(ActId, u32)>,
     acts: &[ActId],
     step: u32,
     starts: &[StartAt],
-) -> Result<Vec<(ActId, u32)>, NoMemory>
-    ensures { IfOk result (λ fresh. fresh.items ≡ map (λ s. (s.act, step)) (listed acts.now starts.now)) }
+) -> Result<(), NoMemory>
+    ensures ok { OnOk result (started.new.items ≡ started.old.items ++ at_step step (listed acts.now starts.now)) }
+    ensures front { take (length started.old.items) started.new.items ≡ started.old.items }
 {
-    let mut fresh = Vec::new(alloc);
     for start in starts {
         if is_listed(acts, start.act) {
-            fresh.push((start.act, step))?;
+            started.push((start.act, step))?;
         }
     }
-    Ok(fresh)
+    Ok(())
 }
 
-/// Adds starts, none of them closed. After `NoMemory` both lists are as before.
+/// Adds the starts of the listed activities, each with the step, and none of them closed. After `NoMemory` both lists are as
+/// before. Grows with the starts times the activities.
 pub fn append(
     started: &mut Vec<(ActId, u32)>,
     closed: &mut Vec<bool>,
-    fresh: &[(ActId, u32)],
+    acts: &[ActId],
+    step: u32,
+    starts: &[StartAt],
 ) -> Result<(), NoMemory>
-    requires { length closed.old.items + length fresh.now < 2 ^ 32 }
-    ensures started { OnOk result (started.new.items ≡ started.old.items ++ fresh.now) }
-    ensures closed { OnOk result (closed.new.items ≡ closed.old.items ++ replicate (length fresh.now) false) }
+    requires { length closed.old.items ≡ length started.old.items }
+    ensures started { OnOk result (started.new.items ≡ started.old.items ++ at_step step (listed acts.now starts.now)) }
+    ensures closed { OnOk result (closed.new.items ≡ closed.old.items ++ replicate (length (at_step step (listed acts.now starts.now))) false) }
     ensures started_err { OnErr result (started.new.items ≡ started.old.items) }
     ensures closed_err { OnErr result (closed.new.items ≡ closed.old.items) }
 {
-    let before = closed.len();
-    closed.resize(before + fresh.len(), false)?;
-    match started.extend_from_slice(fresh) {
+    let before = started.len();
+    if push_listed(started, acts, step, starts).is_err() {
+        started.truncate(before);
+        return Err(NoMemory);
+    }
+    match closed.resize(started.len(), false) {
         Ok(()) => Ok(()),
         Err(_) => {
-            closed.truncate(before);
+            started.truncate(before);
             Err(NoMemory)
         }
     }

@@ -16,7 +16,6 @@ fn items_are_started_and_completed(rt: HostRuntime) -> Result<(), Fail> {
     let alloc = rt.alloc();
     let mut items = Items::new(alloc, UnitId(0));
     items.grow(
-        alloc,
         &[ActId(1), ActId(2)],
         4,
         &[start(2), start(0), start(1), start(2)],

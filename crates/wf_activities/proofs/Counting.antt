@@ -1,0 +1,166 @@
+-- How the counts of open items follow starts and completions.
+use Rattle.std.proofs.Common.{◌≡◌, ◌≢◌, ℕ, zero, suc, ◌+◌, ◌-◌, ◌<◌, ◌≤◌, ◌==◌, ◌&&◌, not, cond, Bool, true, false, List, [], ◌∷◌, ◌++◌, length, replicate, take, get_or, set, Some, None, refl, sym, ◌∙◌, ap, ap₂, subst, arith, eq-eqb, eqb-true, true≢false, length-append, length-set, length-take, get_or-set_other}
+use Rattle.std.specs.List.{slice_get}
+use Rattle.std.proofs.lemmas.List.{take_more, length-replicate}
+use Rattle.std.proofs.lemmas.Grind.{get_or-set_at}
+use Rattle.wf_model.specs.declared.ids.ActId.{ActId}
+use Rattle.wf_model.specs.declared.update.StartAt.{StartAt}
+use Rattle.wf_semantics.specs.Items.{Item, one, open_count, close}
+use Rattle.wf_activities.specs.UnitItems.{is_open, is_listed, listed, at_step, items_from, starts_count, AreKept}
+use Rattle.wf_activities.proofs.Joined.{get_item, close_items, items_append}
+
+pub one_few : (b : Bool) → one b ≤ 1
+one_few true = omega arith
+one_few false = omega arith
+
+pub count_few : (a : ℕ) (items : List Item) → open_count a items ≤ length items
+count_few a [] = omega arith
+count_few a (x ∷ xs) = omega (arith, one_few ((x.act.0 == a) && not x.closed), count_few a xs)
+
+pub count_append : (a : ℕ) (xs ys : List Item) → open_count a (xs ++ ys) ≡ open_count a xs + open_count a ys
+count_append a [] ys = omega arith
+count_append a (x ∷ xs) ys = omega (arith, count_append a xs ys)
+
+and_not_false : (b : Bool) → one (b && not false) ≡ one b
+and_not_false true = refl
+and_not_false false = refl
+
+-- none of what was just started is closed
+pub count_fresh : (a : ℕ) (fs : List (ActId × ℕ)) → open_count a (items_from fs (replicate (length fs) false)) ≡ starts_count a fs
+count_fresh a [] = refl
+count_fresh a (f ∷ fs) = omega (arith, and_not_false (f.0.0 == a), count_fresh a fs)
+
+pub starts_few : (a : ℕ) (fs : List (ActId × ℕ)) → starts_count a fs ≤ length fs
+starts_few a [] = omega arith
+starts_few a (f ∷ fs) = omega (arith, one_few (f.0.0 == a), starts_few a fs)
+
+starts_append : (a : ℕ) (xs ys : List (ActId × ℕ)) → starts_count a (xs ++ ys) ≡ starts_count a xs + starts_count a ys
+starts_append a [] ys = omega arith
+starts_append a (x ∷ xs) ys = omega (arith, starts_append a xs ys)
+
+-- one start more
+pub starts_more : (a : ℕ) (fs : List (ActId × ℕ)) (i : ℕ) (d : ActId × ℕ) → i < length fs → starts_count a (take (i + 1) fs) ≡ starts_count a (take i fs) + one ((get_or fs i d).0.0 == a)
+starts_more a fs i d lt = omega (arith, ap (starts_count a) (take_more fs i d lt), starts_append a (take i fs) (get_or fs i d ∷ []))
+
+-- fewer starts than there are before the last
+pub starts_below : (a : ℕ) (fs : List (ActId × ℕ)) (i : ℕ) → i < length fs → starts_count a (take i fs) < length fs
+starts_below a fs i lt = omega (arith, starts_few a (take i fs), length-take i fs)
+
+-- a start is counted
+pub starts_some : (fs : List (ActId × ℕ)) (i : ℕ) (d : ActId × ℕ) → i < length fs → 0 < starts_count (get_or fs i d).0.0 fs
+starts_some [] i d lt = absurd (omega arith)
+starts_some (f ∷ fs) zero d lt = let own : one (f.0.0 == f.0.0) ≡ 1 = ap one (eq-eqb f.0.0 f.0.0 refl) in omega (arith, own)
+starts_some (f ∷ fs) (suc i) d lt = let r : 0 < starts_count (get_or fs i d).0.0 fs = starts_some fs i d (omega arith) in omega arith
+
+-- one start counted in the table
+pub counted_more : (counts : List ℕ) (fs : List (ActId × ℕ)) (before : ℕ → ℕ) (i : ℕ) (d : ActId × ℕ) (m : ℕ) → i < length fs → (get_or fs i d).0.0 < length counts
+    → m ≡ get_or counts (get_or fs i d).0.0 0 → ((a : ℕ) → get_or counts a 0 ≡ before a + starts_count a (take i fs))
+    → (a : ℕ) → get_or (set counts (get_or fs i d).0.0 (m + 1)) a 0 ≡ before a + starts_count a (take (i + 1) fs)
+counted_more counts fs before i d m lt within e made a = go ((get_or fs i d).0.0 == a) refl
+  where
+    go : (p : Bool) → ((get_or fs i d).0.0 == a) ≡ p → get_or (set counts (get_or fs i d).0.0 (m + 1)) a 0 ≡ before a + starts_count a (take (i + 1) fs)
+    go true q =
+        let same : (get_or fs i d).0.0 ≡ a = eqb-true (get_or fs i d).0.0 a q in
+        let now : get_or (set counts (get_or fs i d).0.0 (m + 1)) a 0 ≡ m + 1 = get_or-set_at counts (get_or fs i d).0.0 a (m + 1) 0 (sym same) within in
+        let was : m ≡ get_or counts a 0 = e ∙ ap (λ (k : ℕ). get_or counts k 0) same in
+        let own : one ((get_or fs i d).0.0 == a) ≡ 1 = ap one q in
+        omega (arith, now, was, own, made a, starts_more a fs i d lt)
+    go false q =
+        let other : a ≢ (get_or fs i d).0.0 = λ r. true≢false (sym (eq-eqb (get_or fs i d).0.0 a (sym r)) ∙ q) in
+        let own : one ((get_or fs i d).0.0 == a) ≡ 0 = ap one q in
+        omega (arith, get_or-set_other counts (get_or fs i d).0.0 a (m + 1) 0 other, own, made a, starts_more a fs i d lt)
+
+-- what is started is listed
+pub started_listed : (a step : ℕ) (acts : List ActId) (ls : List StartAt) → 0 < starts_count a (at_step step (listed acts ls)) → is_listed acts a ≡ true
+started_listed a step acts [] h = absurd (omega arith)
+started_listed a step acts (l ∷ ls) h = go (is_listed acts l.act.0) refl h (λ k. started_listed a step acts ls k)
+  where
+    own : (p : Bool) → (l.act.0 == a) ≡ p → is_listed acts l.act.0 ≡ true → 0 < one (l.act.0 == a) + starts_count a (at_step step (listed acts ls))
+        → (0 < starts_count a (at_step step (listed acts ls)) → is_listed acts a ≡ true) → is_listed acts a ≡ true
+    own true q e k ih = ap (is_listed acts) (sym (eqb-true l.act.0 a q)) ∙ e
+    own false q e k ih = ih (omega (arith, ap one q))
+
+    go : (p : Bool) → is_listed acts l.act.0 ≡ p → 0 < starts_count a (at_step step (cond p (l ∷ listed acts ls) (listed acts ls)))
+        → (0 < starts_count a (at_step step (listed acts ls)) → is_listed acts a ≡ true) → is_listed acts a ≡ true
+    go true e k ih = own (l.act.0 == a) refl e k ih
+    go false e k ih = ih k
+
+open_at : (items : List Item) (k : ℕ) (x : Item) → slice_get items k ≡ Some x → is_open (slice_get items k) ≡ true → x.closed ≡ false
+open_at items k x e h = go x.closed refl
+  where
+    go : (b : Bool) → x.closed ≡ b → x.closed ≡ false
+    go false q = q
+    go true q = absurd (true≢false (sym h ∙ ap is_open e ∙ ap not q))
+
+closing : (p : Bool) (r : ℕ) → (one (p && not true) + r) + one p ≡ one (p && not false) + r
+closing true r = omega arith
+closing false r = omega arith
+
+-- an item that is closed was open, and is counted no more
+pub count_close : (a : ℕ) (items : List Item) (k : ℕ) (x : Item) → slice_get items k ≡ Some x → x.closed ≡ false → open_count a (close (suc k) items) + one (x.act.0 == a) ≡ open_count a items
+count_close a [] k x e o = absurd (none e)
+  where
+    none : None ≡ Some x → ⊥
+    none q = cc
+count_close a (y ∷ ys) zero x e o =
+    let same : y ≡ x = cc in
+    subst (λ (z : Item). open_count a (record y { closed = true } ∷ ys) + one (z.act.0 == a) ≡ open_count a (y ∷ ys)) same
+    (closing (y.act.0 == a) (open_count a ys) ∙ ap (λ (b : Bool). one ((y.act.0 == a) && not b) + open_count a ys) (sym (ap (λ (z : Item). z.closed) same ∙ o)))
+count_close a (y ∷ ys) (suc k) x e o = omega (arith, count_close a ys k x e o)
+
+-- an activity with an open item is in the table
+pub in_table : (counts : List ℕ) (a : ℕ) → 1 ≤ get_or counts a 0 → a < length counts
+in_table [] a h = absurd (omega arith)
+in_table (c ∷ cs) zero h = omega arith
+in_table (c ∷ cs) (suc a) h = let r : a < length cs = in_table cs a h in omega arith
+
+pub kept_grow : (ss fs : List (ActId × ℕ)) (bs : List Bool) (counts after : List ℕ) → AreKept ss bs counts → ((a : ℕ) → get_or after a 0 ≡ get_or counts a 0 + starts_count a fs)
+    → AreKept (ss ++ fs) (bs ++ replicate (length fs) false) after
+kept_grow ss fs bs counts after kept made = record {
+  bits = omega (arith, length-append bs (replicate (length fs) false), length-append ss fs, length-replicate (length fs) false, kept.bits);
+  counted = λ a.
+      let parts : open_count a (items_from (ss ++ fs) (bs ++ replicate (length fs) false)) ≡ open_count a (items_from ss bs ++ items_from fs (replicate (length fs) false)) =
+      ap (open_count a) (items_append ss fs bs (replicate (length fs) false) kept.bits) in
+      omega (arith, made a, kept.counted a, parts, count_append a (items_from ss bs) (items_from fs (replicate (length fs) false)), count_fresh a fs);
+}
+
+pub kept_grown : (ss fs ts : List (ActId × ℕ)) (bs cs : List Bool) (counts after : List ℕ) → ts ≡ ss ++ fs → cs ≡ bs ++ replicate (length fs) false → AreKept ss bs counts
+    → ((a : ℕ) → get_or after a 0 ≡ get_or counts a 0 + starts_count a fs) → AreKept ts cs after
+kept_grown ss fs ts bs cs counts after ht hc kept made =
+    let grown = kept_grow ss fs bs counts after kept made in
+    record {
+      bits = ap length hc ∙ grown.bits ∙ sym (ap length ht);
+      counted = λ a. grown.counted a ∙ ap (open_count a) (sym (ap₂ items_from ht hc));
+    }
+
+module _ (ss : List (ActId × ℕ)) (bs : List Bool) (counts : List ℕ) (kept : AreKept ss bs counts) (k : ℕ) (s : ActId × ℕ) (b : Bool) (within : k < length ss)
+    (is : s ≡ get_or ss k s) (bit : b ≡ get_or bs k b) (open_now : is_open (slice_get (items_from ss bs) k) ≡ true) where
+  there : slice_get (items_from ss bs) k ≡ Some (record { act = s.0; closed = b })
+  there = get_item ss bs k s b kept.bits within is bit
+
+  fewer : (a : ℕ) → open_count a (close (suc k) (items_from ss bs)) + one (s.0.0 == a) ≡ open_count a (items_from ss bs)
+  fewer a = count_close a (items_from ss bs) k (record { act = s.0; closed = b }) there (open_at (items_from ss bs) k (record { act = s.0; closed = b }) there open_now)
+
+  -- the activity of an open item has one
+  pub has_one : 1 ≤ get_or counts s.0.0 0
+  has_one =
+      let own : one (s.0.0 == s.0.0) ≡ 1 = ap one (eq-eqb s.0.0 s.0.0 refl) in
+      omega (arith, fewer s.0.0, own, kept.counted s.0.0)
+
+  pub kept_close : (m : ℕ) → m ≡ get_or counts s.0.0 0 → AreKept ss (set bs k true) (set counts s.0.0 (m - 1))
+  kept_close m e = record {
+    bits = omega (arith, length-set bs k true, kept.bits);
+    counted = λ a. go a (s.0.0 == a) refl;
+  }
+    where
+      go : (a : ℕ) (p : Bool) → (s.0.0 == a) ≡ p → get_or (set counts s.0.0 (m - 1)) a 0 ≡ open_count a (items_from ss (set bs k true))
+      go a true q =
+          let same : s.0.0 ≡ a = eqb-true s.0.0 a q in
+          let now : get_or (set counts s.0.0 (m - 1)) a 0 ≡ m - 1 = get_or-set_at counts s.0.0 a (m - 1) 0 (sym same) (in_table counts s.0.0 has_one) in
+          let was : m ≡ get_or counts a 0 = e ∙ ap (λ (i : ℕ). get_or counts i 0) same in
+          let own : one (s.0.0 == a) ≡ 1 = ap one q in
+          omega (arith, now, was, own, fewer a, kept.counted a, ap (open_count a) (close_items ss bs k))
+      go a false q =
+          let other : a ≢ s.0.0 = λ r. true≢false (sym (eq-eqb s.0.0 a (sym r)) ∙ q) in
+          let own : one (s.0.0 == a) ≡ 0 = ap one q in
+          omega (arith, get_or-set_other counts s.0.0 a (m - 1) 0 other, own, fewer a, kept.counted a, ap (open_count a) (close_items ss bs k))

@@ -1,0 +1,5 @@
+pub mod Joined
+pub mod Counting
+pub mod Wanted
+pub mod Completed
+pub mod LawsHold

@@ -1,0 +1,3 @@
+pub mod UnitItems
+pub mod Completing
+pub mod Laws

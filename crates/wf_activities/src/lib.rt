@@ -1,0 +1,16 @@
+//! The items of one unit: the starts of its activities, numbered from 1, and which of them are closed.
+#![tactic(auto)]
+
+mod counts;
+mod items;
+mod laws;
+mod outputs;
+mod starts;
+#[cfg(test)]
+mod tests;
+
+pub use items::Items;
+pub use laws::{
+    closed_stays_closed, closes_one, completes_by_admission, counts_open_items, grows_by_step,
+    keeps_numbers,
+};

@@ -1,0 +1,4 @@
+pub mod Written
+pub mod Literals
+pub mod Named
+pub mod Spelled

@@ -1,0 +1,37 @@
+-- The canonical text of an expression is cut into tokens, and they are read as that expression.
+use Rattle.std.specs.Prelude.{◌≡◌, ◌≤◌, ℕ, List, [], length, map, Ok, IsTrue}
+use Rattle.wf_model.specs.declared.limits.TheConstants.{MAX_TOKENS}
+use Rattle.wf_model.specs.declared.chart.Chart.{Chart}
+use Rattle.wf_model.specs.declared.expr.Expr.{Expr}
+use Rattle.wf_model.specs.Accepted.{nodes, is_known_expr, is_named}
+use Rattle.wf_lex.specs.declared.token.TokenKind.TheVariants as kinds
+use Rattle.wf_lex.specs.declared.token.Token.{Token}
+use Rattle.wf_lex.specs.Lex.{tokens_of}
+use Rattle.wf_print.specs.Expressions.{expr_text}
+use Rattle.wf_grammar.specs.Lexemes.{lexeme_of}
+use Rattle.wf_grammar.specs.Phrases.{Names, Rank, Spells}
+use Rattle.wf_canon.specs.Spans.{Span, written, lexemes_of, IsEnded, AreApart}
+use Rattle.wf_canon.specs.Expressions.{expr_spans, has_short_literals, AreDeclared}
+
+-- a text of blanks and tokens is cut into these tokens
+abbrev pub WrittenIsCut : Type 0
+WrittenIsCut =
+    (spans : List Span) → AreApart spans [] → length (lexemes_of spans) ≤ MAX_TOKENS →
+    (tokens : List Token) × (tokens_of (written spans) ≡ Ok tokens) × (map (lexeme_of (written spans)) tokens ≡ lexemes_of spans)
+
+-- the spans of an expression are its canonical text
+abbrev pub ExprIsWritten : Type 0
+ExprIsWritten = (chart : Chart) (x : Expr) → written (expr_spans chart x) ≡ expr_text chart x
+
+-- and stand apart, where no letter, digit or `_` follows
+abbrev pub ExprIsApart : Type 0
+ExprIsApart =
+    (chart : Chart) (x : Expr) (rest : List ℕ) → IsTrue (is_named chart) → IsTrue (is_known_expr chart x) → IsTrue (has_short_literals x) → IsEnded kinds.Word rest →
+    AreApart (expr_spans chart x) rest
+
+-- the tokens of an expression spell it, with at most as many parentheses open as it has nodes
+abbrev pub ExprIsSpelled : Type 0
+ExprIsSpelled =
+    (chart : Chart) (names : Names) (x : Expr) (depth : ℕ) →
+    IsTrue (is_named chart) → AreDeclared names chart → IsTrue (is_known_expr chart x) → IsTrue (has_short_literals x) → nodes x ≤ depth →
+    Spells names depth Rank.atom (lexemes_of (expr_spans chart x)) x

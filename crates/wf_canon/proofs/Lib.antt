@@ -2,3 +2,5 @@ pub mod Written
 pub mod Literals
 pub mod Named
 pub mod Spelled
+pub mod Kept
+pub mod Cut

@@ -1,16 +1,16 @@
 -- The canonical text of an expression is cut into tokens, and they are read as that expression.
-use Rattle.std.specs.Prelude.{◌≡◌, ◌≤◌, ℕ, List, [], length, map, Ok, IsTrue}
+use Rattle.std.specs.Prelude.{◌≡◌, ◌≤◌, ℕ, false, List, [], length, slice_index, map, Ok, IsTrue}
 use Rattle.wf_model.specs.declared.limits.TheConstants.{MAX_TOKENS}
 use Rattle.wf_model.specs.declared.chart.Chart.{Chart}
 use Rattle.wf_model.specs.declared.expr.Expr.{Expr}
 use Rattle.wf_model.specs.Accepted.{nodes, is_known_expr, is_named}
-use Rattle.wf_lex.specs.declared.token.TokenKind.TheVariants as kinds
+use Rattle.wf_model.specs.Names.{is_word_char}
 use Rattle.wf_lex.specs.declared.token.Token.{Token}
 use Rattle.wf_lex.specs.Lex.{tokens_of}
 use Rattle.wf_print.specs.Expressions.{expr_text}
 use Rattle.wf_grammar.specs.Lexemes.{lexeme_of}
 use Rattle.wf_grammar.specs.Phrases.{Names, Rank, Spells}
-use Rattle.wf_canon.specs.Spans.{Span, written, lexemes_of, IsEnded, AreApart}
+use Rattle.wf_canon.specs.Spans.{Span, written, lexemes_of, AreApart}
 use Rattle.wf_canon.specs.Expressions.{expr_spans, has_short_literals, AreDeclared}
 
 -- a text of blanks and tokens is cut into these tokens
@@ -26,7 +26,7 @@ ExprIsWritten = (chart : Chart) (x : Expr) → written (expr_spans chart x) ≡ 
 -- and stand apart, where no letter, digit or `_` follows
 abbrev pub ExprIsApart : Type 0
 ExprIsApart =
-    (chart : Chart) (x : Expr) (rest : List ℕ) → IsTrue (is_named chart) → IsTrue (is_known_expr chart x) → IsTrue (has_short_literals x) → IsEnded kinds.Word rest →
+    (chart : Chart) (x : Expr) (rest : List ℕ) → IsTrue (is_named chart) → IsTrue (is_known_expr chart x) → IsTrue (has_short_literals x) → is_word_char (slice_index rest 0) ≡ false →
     AreApart (expr_spans chart x) rest
 
 -- the tokens of an expression spell it, with at most as many parentheses open as it has nodes

@@ -1,9 +1,20 @@
 //! Laws of the canonical text.
-ghost use Rattle.wf_canon.specs.Laws.{ExprIsSpelled, ExprIsWritten};
+ghost use Rattle.wf_canon.specs.Laws.{ExprIsApart, ExprIsSpelled, ExprIsWritten, WrittenIsCut};
+
+/// A text that is written as blanks and tokens, where no token runs into the next one, is cut into these tokens, if they aren't
+/// too many.
+pub fn written_is_cut()
+    ensures { WrittenIsCut }
+{}
 
 /// The spans of an expression, one behind the other, are its canonical text.
 pub fn expr_is_written()
     ensures { ExprIsWritten }
+{}
+
+/// None of them runs into the next one, nor into what follows, if that begins with no letter, digit or `_`.
+pub fn expr_is_apart()
+    ensures { ExprIsApart }
 {}
 
 /// The tokens of the canonical text of an expression spell it as an atom, where the chart's names are declared as what they are,

@@ -1,6 +1,7 @@
-//! The canonical text of an expression is read back as that expression. Each public function is a law and has nothing to do.
+//! The canonical text of an expression is cut into tokens, and they spell that expression. Each public function is a law and has
+//! nothing to do.
 #![tactic(auto)]
 
 mod laws;
 
-pub use laws::{expr_is_spelled, expr_is_written};
+pub use laws::{expr_is_apart, expr_is_spelled, expr_is_written, written_is_cut};

@@ -103,7 +103,8 @@ written_is_cut spans apart few =
     let text = written spans in
     let whole : text ++ [] ≡ text = append-nil text in
     let size : 0 + length (text ++ []) ≡ length text = omega (arith, ap length whole) in
-    let count : 0 + length (lexemes_of spans) ≤ MAX_TOKENS = omega (arith, few) in
-    (tokens_at 0 spans,
-    ap (lex (length text) 0 0 false) (sym whole) ∙ cut spans (length text) 0 0 [] apart size count ∙ ap Ok (append-nil (tokens_at 0 spans)),
-    are_lexemes spans text [] [] 0 (sym whole) refl)
+    let count : 0 + length (lexemes_of spans) ≤ MAX_TOKENS = omega (arith, few) in (
+      tokens_at 0 spans,
+      ap (lex (length text) 0 0 false) (sym whole) ∙ cut spans (length text) 0 0 [] apart size count ∙ ap Ok (append-nil (tokens_at 0 spans)),
+      are_lexemes spans text [] [] 0 (sym whole) refl,
+    )

@@ -13,7 +13,7 @@ use Rattle.wf_lex.specs.Lex.{with_kind, is_blank, is_alone, may_join, sign_rest,
 use Rattle.wf_lex.specs.Slices.{IsToken}
 use Rattle.wf_canon.specs.Spans.{goes_on}
 
-passes_first : (p : ℕ → Bool) (b : ℕ) (bs : List ℕ) → p b ≡ true → take_while p (b ∷ bs) ≡ b ∷ take_while p bs
+pub passes_first : (p : ℕ → Bool) (b : ℕ) (bs : List ℕ) → p b ≡ true → take_while p (b ∷ bs) ≡ b ∷ take_while p bs
 passes_first p b bs passes = take_while-cons p b bs ∙ ap (λ t. cond t (b ∷ take_while p bs) []) passes
 
 fails_first : (p : ℕ → Bool) (b : ℕ) (bs : List ℕ) → p b ≡ false → take_while p (b ∷ bs) ≡ []

@@ -4,3 +4,4 @@ pub mod Named
 pub mod Spelled
 pub mod Kept
 pub mod Cut
+pub mod Apart

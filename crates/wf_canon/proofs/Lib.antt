@@ -5,3 +5,4 @@ pub mod Spelled
 pub mod Kept
 pub mod Cut
 pub mod Apart
+pub mod ReadBack

@@ -1,6 +1,6 @@
 -- The canonical text of an expression is cut into tokens, and they are read as that expression.
-use Rattle.std.specs.Prelude.{◌≡◌, ◌≤◌, ℕ, false, List, [], length, slice_index, map, Ok, IsTrue}
-use Rattle.wf_model.specs.declared.limits.TheConstants.{MAX_TOKENS}
+use Rattle.std.specs.Prelude.{◌≡◌, ◌≤◌, ℕ, ◌++◌, false, List, [], length, drop, slice_index, map, Ok, IsTrue}
+use Rattle.wf_model.specs.declared.limits.TheConstants.{MAX_TOKENS, MAX_NODES}
 use Rattle.wf_model.specs.declared.chart.Chart.{Chart}
 use Rattle.wf_model.specs.declared.expr.Expr.{Expr}
 use Rattle.wf_model.specs.Accepted.{nodes, is_known_expr, is_named}
@@ -8,8 +8,11 @@ use Rattle.wf_model.specs.Names.{is_word_char}
 use Rattle.wf_lex.specs.declared.token.Token.{Token}
 use Rattle.wf_lex.specs.Lex.{tokens_of}
 use Rattle.wf_print.specs.Expressions.{expr_text}
-use Rattle.wf_grammar.specs.Lexemes.{lexeme_of}
+use Rattle.wf_cursor.specs.Input.{Input}
+use Rattle.wf_phrase.specs.Expressions.{expr}
+use Rattle.wf_grammar.specs.Lexemes.{Lexeme, lexeme_of, lexemes}
 use Rattle.wf_grammar.specs.Phrases.{Names, Rank, Spells}
+use Rattle.wf_grammar.specs.Laws.{behind, first_piece, IsNoOperator}
 use Rattle.wf_canon.specs.Spans.{Span, written, lexemes_of, AreApart}
 use Rattle.wf_canon.specs.Expressions.{expr_spans, has_short_literals, AreDeclared}
 
@@ -35,3 +38,27 @@ ExprIsSpelled =
     (chart : Chart) (names : Names) (x : Expr) (depth : ℕ) →
     IsTrue (is_named chart) → AreDeclared names chart → IsTrue (is_known_expr chart x) → IsTrue (has_short_literals x) → nodes x ≤ depth →
     Spells names depth Rank.atom (lexemes_of (expr_spans chart x)) x
+
+-- the reader reads them as that expression, where no operator follows
+abbrev pub ExprIsRead : Type 0
+ExprIsRead =
+    (chart : Chart) (x : Expr) (i : Input) (more : List Lexeme) →
+    IsTrue (is_named chart) → AreDeclared i.names chart → IsTrue (is_known_expr chart x) → IsTrue (has_short_literals x) → nodes x ≤ MAX_NODES →
+    lexemes i ≡ lexemes_of (expr_spans chart x) ++ more → IsNoOperator (first_piece more) →
+    expr i ≡ Ok (x, behind (length (lexemes_of (expr_spans chart x))) (nodes x) i)
+
+-- the canonical text of an expression between other spans
+abbrev pub text_around : List Span → Chart → Expr → List Span → List ℕ
+text_around before chart x after = written before ++ expr_text chart x ++ written after
+
+-- it is cut, and the reader that has come to the expression reads it
+abbrev pub ExprIsReadBack : Type 0
+ExprIsReadBack =
+    (chart : Chart) (x : Expr) (before after : List Span) →
+    IsTrue (is_named chart) → IsTrue (is_known_expr chart x) → IsTrue (has_short_literals x) → nodes x ≤ MAX_NODES →
+    AreApart before (expr_text chart x ++ written after) → is_word_char (slice_index (written after) 0) ≡ false → AreApart after [] →
+    length (lexemes_of (before ++ expr_spans chart x ++ after)) ≤ MAX_TOKENS → IsNoOperator (first_piece (lexemes_of after)) →
+    (tokens : List Token)
+    × (tokens_of (text_around before chart x after) ≡ Ok tokens)
+    × ((i : Input) → i.text ≡ text_around before chart x after → i.left ≡ drop (length (lexemes_of before)) tokens → AreDeclared i.names chart →
+    expr i ≡ Ok (x, behind (length (lexemes_of (expr_spans chart x))) (nodes x) i))

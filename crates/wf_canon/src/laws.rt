@@ -1,5 +1,5 @@
 //! Laws of the canonical text.
-ghost use Rattle.wf_canon.specs.Laws.{ExprIsApart, ExprIsSpelled, ExprIsWritten, WrittenIsCut};
+ghost use Rattle.wf_canon.specs.Laws.{ExprIsApart, ExprIsRead, ExprIsReadBack, ExprIsSpelled, ExprIsWritten, WrittenIsCut};
 
 /// A text that is written as blanks and tokens, where no token runs into the next one, is cut into these tokens, if they aren't
 /// too many.
@@ -21,4 +21,15 @@ pub fn expr_is_apart()
 /// with at most as many parentheses open as the expression has nodes.
 pub fn expr_is_spelled()
     ensures { ExprIsSpelled }
+{}
+
+/// Where these tokens are next and no operator follows, the reader of expressions answers that expression, and is then behind them.
+pub fn expr_is_read()
+    ensures { ExprIsRead }
+{}
+
+/// The canonical text of an expression in the midst of a text is cut into tokens, and the reader that has come to the first of them
+/// answers that expression.
+pub fn expr_is_read_back()
+    ensures { ExprIsReadBack }
 {}

@@ -55,7 +55,7 @@ word_token (b ∷ bs) h =
 digit_is_no_letter : (b : ℕ) → is_digit b ≡ true → is_letter b ≡ false
 digit_is_no_letter b h = grind (arith, nat_tests)
 
-digits_token : (digits : List ℕ) → list_all is_digit digits ≡ true → 0 < length digits → IsToken kinds.Int digits []
+pub digits_token : (digits : List ℕ) → list_all is_digit digits ≡ true → 0 < length digits → IsToken kinds.Int digits []
 unfolding token_at
 digits_token [] h some = absurd (omega arith)
 digits_token (b ∷ bs) h some =
@@ -140,7 +140,7 @@ done_token : IsToken kinds.Word (codes "done") []
 unfolding token_at
 done_token = refl
 
-no_digit : (b : ℕ) → is_word_char b ≡ false → is_digit b ≡ false
+pub no_digit : (b : ℕ) → is_word_char b ≡ false → is_digit b ≡ false
 no_digit b h = grind (arith, nat_tests)
 
 module _ (chart : Chart) (named : is_named chart ≡ true) where

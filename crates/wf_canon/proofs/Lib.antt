@@ -6,3 +6,6 @@ pub mod Kept
 pub mod Cut
 pub mod Apart
 pub mod ReadBack
+pub mod Known
+pub mod Fits
+pub mod ChartFits

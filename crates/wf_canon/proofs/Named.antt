@@ -4,6 +4,8 @@ use Rattle.std.specs.List.{list_all}
 use Rattle.std.specs.Option.{option_map_or}
 use Rattle.std.proofs.lemmas.Bool.Decides.{nat_tests}
 use Rattle.wf_model.specs.declared.limits.TheConstants.{MAX_NAME}
+use Rattle.wf_model.specs.declared.ids.UnitId.{UnitId}
+use Rattle.wf_model.specs.declared.ids.EventId.{EventId}
 use Rattle.wf_model.specs.declared.ids.VarId.{VarId}
 use Rattle.wf_model.specs.declared.ids.StateId.{StateId}
 use Rattle.wf_model.specs.declared.ids.ActId.{ActId}
@@ -21,7 +23,7 @@ use Rattle.wf_cursor.specs.declared.piece.Piece.TheVariants as pieces
 use Rattle.wf_cursor.specs.Pieces.{piece_of, same_piece, word_piece}
 use Rattle.wf_cursor.specs.Names.{declared_as}
 use Rattle.wf_cursor.proofs.Reserved.{names_are_not_reserved}
-use Rattle.wf_words.specs.Names.{var_name, state_name, act_name}
+use Rattle.wf_words.specs.Names.{unit_name, event_name, var_name, state_name, act_name}
 use Rattle.wf_grammar.specs.Phrases.{Names, IsNameOf}
 use Rattle.wf_grammar.proofs.Inputs.{same_is}
 use Rattle.wf_canon.specs.Spans.{lexeme}
@@ -66,23 +68,31 @@ all_map : {A B : Type 0} (test : B → Bool) (f : A → B) (xs : List A) → lis
 all_map test f [] h = refl
 all_map test f (x ∷ xs) h = let p = and_both (test (f x)) (list_all test (map f xs)) h in rw p.0 (all_map test f xs p.1)
 
-record HasNames (chart : Chart) : Type 0 where
-  vars : list_all (λ x. is_name x.name) chart.vars ≡ true
-  acts : list_all (λ x. is_name x.name) chart.acts ≡ true
-  states : list_all (λ x. is_name x.name) chart.states ≡ true
+pub record HasNames (chart : Chart) : Type 0 where
+  pub own : is_name chart.name ≡ true
+  pub units : list_all (λ x. is_name x) chart.units ≡ true
+  pub events : list_all (λ x. is_name x.name) chart.events ≡ true
+  pub vars : list_all (λ x. is_name x.name) chart.vars ≡ true
+  pub acts : list_all (λ x. is_name x.name) chart.acts ≡ true
+  pub states : list_all (λ x. is_name x.name) chart.states ≡ true
 
-has_names : (chart : Chart) → is_named chart ≡ true → HasNames chart
+pub has_names : (chart : Chart) → is_named chart ≡ true → HasNames chart
 unfolding is_named
 has_names chart h =
     let events = map (λ (x : Event). x.name) chart.events in
     let vars = map (λ (x : Variable). x.name) chart.vars in
     let acts = map (λ (x : Activity). x.name) chart.acts in
     let states = map (λ (x : State). x.name) chart.states in
+    let own : is_name chart.name ≡ true = grind arith in
     let all : list_all is_name (chart.units ++ events ++ vars ++ acts ++ states) ≡ true = grind arith in
     let before_states = all_append is_name (chart.units ++ events ++ vars ++ acts) states all in
     let before_acts = all_append is_name (chart.units ++ events ++ vars) acts before_states.0 in
     let before_vars = all_append is_name (chart.units ++ events) vars before_acts.0 in
+    let before_events = all_append is_name chart.units events before_vars.0 in
     record {
+      own = own;
+      units = before_events.0;
+      events = all_map is_name (λ (x : Event). x.name) chart.events before_events.1;
       vars = all_map is_name (λ (x : Variable). x.name) chart.vars before_vars.1;
       acts = all_map is_name (λ (x : Activity). x.name) chart.acts before_acts.1;
       states = all_map is_name (λ (x : State). x.name) chart.states before_states.1;
@@ -100,3 +110,9 @@ module _ (chart : Chart) (named : is_named chart ≡ true) where
 
   pub act_named : (a : ActId) → nat_lt a.0 (length chart.acts) ≡ true → is_name (act_name chart a) ≡ true
   act_named a h = named_at (λ (y : Activity). y.name) chart.acts a.0 (has_names chart named).acts (below a.0 (length chart.acts) h)
+
+  pub unit_named : (u : UnitId) → nat_lt u.0 (length chart.units) ≡ true → is_name (unit_name chart u) ≡ true
+  unit_named u h = named_at (λ (y : List ℕ). y) chart.units u.0 (has_names chart named).units (below u.0 (length chart.units) h)
+
+  pub event_named : (x : EventId) → nat_lt x.0 (length chart.events) ≡ true → is_name (event_name chart x) ≡ true
+  event_named x h = named_at (λ (y : Event). y.name) chart.events x.0 (has_names chart named).events (below x.0 (length chart.events) h)

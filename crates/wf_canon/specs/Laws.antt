@@ -3,11 +3,12 @@ use Rattle.std.specs.Prelude.{◌≡◌, ◌≤◌, ℕ, ◌++◌, false, List, 
 use Rattle.wf_model.specs.declared.limits.TheConstants.{MAX_TOKENS, MAX_NODES}
 use Rattle.wf_model.specs.declared.chart.Chart.{Chart}
 use Rattle.wf_model.specs.declared.expr.Expr.{Expr}
-use Rattle.wf_model.specs.Accepted.{nodes, is_known_expr, is_named}
+use Rattle.wf_model.specs.Accepted.{nodes, is_known_expr, is_named, IsAccepted}
 use Rattle.wf_model.specs.Names.{is_word_char}
 use Rattle.wf_lex.specs.declared.token.Token.{Token}
 use Rattle.wf_lex.specs.Lex.{tokens_of}
 use Rattle.wf_print.specs.Expressions.{expr_text}
+use Rattle.wf_print.specs.ChartText.{chart_text}
 use Rattle.wf_cursor.specs.Input.{Input}
 use Rattle.wf_phrase.specs.Expressions.{expr}
 use Rattle.wf_grammar.specs.Lexemes.{Lexeme, lexeme_of, lexemes}
@@ -15,6 +16,7 @@ use Rattle.wf_grammar.specs.Phrases.{Names, Rank, Spells}
 use Rattle.wf_grammar.specs.Laws.{behind, first_piece, IsNoOperator}
 use Rattle.wf_canon.specs.Spans.{Span, written, lexemes_of, AreApart}
 use Rattle.wf_canon.specs.Expressions.{expr_spans, has_short_literals, AreDeclared}
+use Rattle.wf_canon.specs.Charts.{chart_spans, is_short}
 
 -- a text of blanks and tokens is cut into these tokens
 abbrev pub WrittenIsCut : Type 0
@@ -62,3 +64,10 @@ ExprIsReadBack =
     × (tokens_of (text_around before chart x after) ≡ Ok tokens)
     × ((i : Input) → i.text ≡ text_around before chart x after → i.left ≡ drop (length (lexemes_of before)) tokens → AreDeclared i.names chart →
     expr i ≡ Ok (x, behind (length (lexemes_of (expr_spans chart x))) (nodes x) i))
+
+-- The canonical text of an accepted chart is cut into the tokens of its spans, where there are at most MAX_TOKENS. A large chart's
+-- text may have more.
+abbrev pub ChartIsCut : Type 0
+ChartIsCut =
+    (chart : Chart) → IsAccepted chart → IsTrue (is_short chart) → length (lexemes_of (chart_spans chart)) ≤ MAX_TOKENS →
+    (tokens : List Token) × (tokens_of (chart_text chart) ≡ Ok tokens) × (map (lexeme_of (chart_text chart)) tokens ≡ lexemes_of (chart_spans chart))

@@ -1,5 +1,5 @@
 //! Laws of the canonical text.
-ghost use Rattle.wf_canon.specs.Laws.{ExprIsApart, ExprIsRead, ExprIsReadBack, ExprIsSpelled, ExprIsWritten, WrittenIsCut};
+ghost use Rattle.wf_canon.specs.Laws.{ChartIsCut, ExprIsApart, ExprIsRead, ExprIsReadBack, ExprIsSpelled, ExprIsWritten, WrittenIsCut};
 
 /// A text that is written as blanks and tokens, where no token runs into the next one, is cut into these tokens, if they aren't
 /// too many.
@@ -32,4 +32,10 @@ pub fn expr_is_read()
 /// answers that expression.
 pub fn expr_is_read_back()
     ensures { ExprIsReadBack }
+{}
+
+/// The canonical text of an accepted chart is cut into the tokens of its spans, if they aren't too many: the text of a large chart
+/// may have more than can be read.
+pub fn chart_is_cut()
+    ensures { ChartIsCut }
 {}

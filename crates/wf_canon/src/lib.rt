@@ -5,6 +5,6 @@
 mod laws;
 
 pub use laws::{
-    expr_is_apart, expr_is_read, expr_is_read_back, expr_is_spelled, expr_is_written,
+    chart_is_cut, expr_is_apart, expr_is_read, expr_is_read_back, expr_is_spelled, expr_is_written,
     written_is_cut,
 };

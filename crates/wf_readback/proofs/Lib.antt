@@ -1,0 +1,4 @@
+pub mod Steps
+pub mod Pieces
+pub mod Transitions
+pub mod Fit

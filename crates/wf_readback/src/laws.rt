@@ -1,0 +1,8 @@
+//! Laws of the reader on canonical texts.
+ghost use Rattle.wf_readback.specs.Laws.{TransitionsAreRead};
+
+/// Where the tokens of an accepted chart's transitions are left and its names are declared as what they are, the reader answers
+/// these transitions. Then no token is left, and what was declared is as before.
+pub fn transitions_are_read()
+    ensures { TransitionsAreRead }
+{}

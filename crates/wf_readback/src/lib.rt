@@ -1,0 +1,6 @@
+//! The canonical text of a chart is read back as that chart. Each public function is a law and has nothing to do.
+#![tactic(auto)]
+
+mod laws;
+
+pub use laws::transitions_are_read;

@@ -1,8 +1,13 @@
 //! Laws of the reader on canonical texts.
-ghost use Rattle.wf_readback.specs.Laws.{TransitionsAreRead};
+ghost use Rattle.wf_readback.specs.Laws.{NamesAreDeclared, TransitionsAreRead};
 
 /// Where the tokens of an accepted chart's transitions are left and its names are declared as what they are, the reader answers
 /// these transitions. Then no token is left, and what was declared is as before.
 pub fn transitions_are_read()
     ensures { TransitionsAreRead }
+{}
+
+/// The names of an accepted chart, in order of its canonical text, are declared as what they are: none hides another one.
+pub fn names_are_declared()
+    ensures { NamesAreDeclared }
 {}

@@ -32,7 +32,7 @@ pub name_is_word : (name : List ℕ) → is_name name ≡ true → is_word name 
 unfolding is_name
 name_is_word name h = grind arith
 
-name_is_short : (name : List ℕ) → is_name name ≡ true → length name ≤ MAX_NAME
+pub name_is_short : (name : List ℕ) → is_name name ≡ true → length name ≤ MAX_NAME
 unfolding is_name
 name_is_short name h =
     let short : nat_le (length name) MAX_NAME ≡ true = grind arith in
@@ -42,7 +42,7 @@ name_is_free : (name : List ℕ) → is_name name ≡ true → is_reserved name 
 unfolding is_name
 name_is_free name h = grind arith
 
-name_piece : (name : List ℕ) → is_name name ≡ true → piece_of kinds.Word name ≡ pieces.Name
+pub name_piece : (name : List ℕ) → is_name name ≡ true → piece_of kinds.Word name ≡ pieces.Name
 unfolding piece_of
 name_piece name h = same_is (word_piece name) pieces.Name (names_are_not_reserved name ∙ ap not (name_is_free name h))
 

@@ -4,3 +4,6 @@ pub mod Transitions
 pub mod Fit
 pub mod New
 pub mod Named
+pub mod Declaring
+pub mod Declarations
+pub mod Loops

@@ -109,13 +109,13 @@ module _ (chart : Chart) where
   fault_covered : Covers (codes "fault" ∷ []) fault_alone
   fault_covered x h = grind arith
 
-  abbrev after_units : Names
+  abbrev pub after_units : Names
   after_units = fault_alone ++ declared_from (λ x. x) unit_of 0 chart.units
 
-  abbrev after_events : Names
+  abbrev pub after_events : Names
   after_events = after_units ++ declared_from (λ x. x.name) event_of 1 (events_behind chart)
 
-  abbrev after_vars : Names
+  abbrev pub after_vars : Names
   after_vars = after_events ++ declared_from (λ x. x.name) var_of 0 chart.vars
 
   -- each kind is new where it is declared
@@ -167,7 +167,7 @@ module _ (chart : Chart) where
           stays_events (option_map_or (λ (x : Event). x.name) (slice_get (events_behind chart) i) []) (event_of (suc i))
           (each_found (λ (x : Event). x.name) event_of after_units 1 (events_behind chart) i (orders ok).events (omega arith) ∙ ap (λ (n : ℕ). Some (event_of n)) same)
 
-at_zero : (what : ℕ → Declared) (i : ℕ) → Some (what (0 + i)) ≡ Some (what i)
+pub at_zero : (what : ℕ → Declared) (i : ℕ) → Some (what (0 + i)) ≡ Some (what i)
 at_zero what i = let same : 0 + i ≡ i = omega arith in ap (λ (n : ℕ). Some (what n)) same
 
 pub names_are_declared : NamesAreDeclared

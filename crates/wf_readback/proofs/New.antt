@@ -53,9 +53,10 @@ new_from seen [] names k is size h = tt
 new_from seen (x ∷ xs) names k is size h =
     let p = and_both (is_new names k x) (list_all (λ p. is_new names p.0 p.1) (enumerate_from (k + 1) xs)) h in
     let front : take k names ≡ seen = ap (take k) is ∙ take_at seen (x ∷ xs) k size in
-    let longer : length (seen ++ x ∷ []) ≡ k + 1 = omega (arith, size, length-append seen (x ∷ [])) in
-    (ap (list_any (bytes_eq x)) (sym front) ∙ not_false (list_any (bytes_eq x) (take k names)) p.0,
-    new_from (seen ++ x ∷ []) xs names (k + 1) (is ∙ sym (append_assoc seen (x ∷ []) xs)) longer p.1)
+    let longer : length (seen ++ x ∷ []) ≡ k + 1 = omega (arith, size, length-append seen (x ∷ [])) in (
+      ap (list_any (bytes_eq x)) (sym front) ∙ not_false (list_any (bytes_eq x) (take k names)) p.0,
+      new_from (seen ++ x ∷ []) xs names (k + 1) (is ∙ sym (append_assoc seen (x ∷ []) xs)) longer p.1,
+    )
 
 pub are_new : (names : List (List ℕ)) → all_numbered (is_new names) names ≡ true → AreNew [] names
 are_new names h = new_from [] names names 0 refl refl h
@@ -64,9 +65,10 @@ are_new names h = new_from [] names names 0 refl refl h
 
 weaker_seen : (seen other xs : List (List ℕ)) → ((x : List ℕ) → IsOther seen x → IsOther other x) → AreNew seen xs → AreNew other xs
 weaker_seen seen other [] w h = tt
-weaker_seen seen other (x ∷ xs) w h =
-    (w x h.0,
-    weaker_seen (seen ++ x ∷ []) (other ++ x ∷ []) xs (λ y k. let p = other_parts seen (x ∷ []) y k in other-append other (x ∷ []) y (w y p.0) p.1) h.1)
+weaker_seen seen other (x ∷ xs) w h = (
+  w x h.0,
+  weaker_seen (seen ++ x ∷ []) (other ++ x ∷ []) xs (λ y k. let p = other_parts seen (x ∷ []) y k in other-append other (x ∷ []) y (w y p.0) p.1) h.1,
+)
 
 turned : (x y : List ℕ) → bytes_eq x y ≡ false → bytes_eq y x ≡ false
 turned x y h =

@@ -120,7 +120,7 @@ module _ (i : Input) (w : Lexeme) (ws : List Lexeme) (m : Made) (at : At i (w �
   pub activity_step : (a : ActId) → IsNameOf m.names (declared_as_a.Activity a) w → Answers (input.activity i) a ws m
   activity_step a is = one_token i w ws m input.activity a at (λ t rest same. activity_here i t rest i.at i.nodes a (here_is (declared_as_a.Activity a) t same is))
 
-name_here : (i : Input) (t : Token) (rest : List Token) (at count : ℕ) → Is pieces.Name (lexeme_of i.text t) → length (lexeme_of i.text t).bytes ≤ MAX_NAME
+pub name_here : (i : Input) (t : Token) (rest : List Token) (at count : ℕ) → Is pieces.Name (lexeme_of i.text t) → length (lexeme_of i.text t).bytes ≤ MAX_NAME
     → name_ahead (here i (t ∷ rest) at count) ≡ Ok (tt, here i (t ∷ rest) at count)
 unfolding name_ahead
 name_here i t rest at count is short =

@@ -120,7 +120,7 @@ commas_end : (chart : Chart) (xs : List Action) (ws : List Lexeme) → IsNoOpera
 commas_end chart [] ws h = h
 commas_end chart (x ∷ xs) ws h = is_no_operator pieces.Comma (sign_lexeme (codes ",")).piece comma_is no_operator_comma
 
-two_parts : (us vs : List Span) (ws : List Lexeme) → lexemes_of (us ++ vs) ++ ws ≡ lexemes_of us ++ (lexemes_of vs ++ ws)
+pub two_parts : (us vs : List Span) (ws : List Lexeme) → lexemes_of (us ++ vs) ++ ws ≡ lexemes_of us ++ (lexemes_of vs ++ ws)
 two_parts us vs ws = ap (λ ls. ls ++ ws) (lexemes-append us vs) ∙ append_assoc (lexemes_of us) (lexemes_of vs) ws
 
 -- more lexemes than items

@@ -3,4 +3,4 @@
 
 mod laws;
 
-pub use laws::{names_are_declared, transitions_are_read};
+pub use laws::{declarations_are_read, names_are_declared, transitions_are_read};

@@ -7,3 +7,4 @@ pub mod Named
 pub mod Declaring
 pub mod Declarations
 pub mod Loops
+pub mod States

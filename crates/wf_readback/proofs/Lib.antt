@@ -1,0 +1,10 @@
+pub mod Steps
+pub mod Pieces
+pub mod Transitions
+pub mod Fit
+pub mod New
+pub mod Named
+pub mod Declaring
+pub mod Declarations
+pub mod Loops
+pub mod States

@@ -1,0 +1,19 @@
+//! Laws of the reader on canonical texts.
+ghost use Rattle.wf_readback.specs.Laws.{DeclarationsAreRead, NamesAreDeclared, TransitionsAreRead};
+
+/// Where the tokens of an accepted chart's transitions are left and its names are declared as what they are, the reader answers
+/// these transitions. Then no token is left, and what was declared is as before.
+pub fn transitions_are_read()
+    ensures { TransitionsAreRead }
+{}
+
+/// The names of an accepted chart, in order of its canonical text, are declared as what they are: none hides another one.
+pub fn names_are_declared()
+    ensures { NamesAreDeclared }
+{}
+
+/// Where the tokens of an accepted chart's declarations are next, and then its root, the reader reads these declarations: what it
+/// has declared then is what the chart has, but the states.
+pub fn declarations_are_read()
+    ensures { DeclarationsAreRead }
+{}

@@ -1,5 +1,5 @@
 -- What the rule of atoms reads is spelled.
-use Rattle.std.proofs.Common.{◌≡◌, ℕ, zero, suc, ◌+◌, ◌<◌, Bool, true, false, List, [], ◌∷◌, Some, None, Ok, refl, sym, ◌∙◌, subst, arith}
+use Rattle.std.proofs.Common.{◌≡◌, ℕ, zero, suc, ◌+◌, ◌<◌, Bool, true, false, List, [], ◌∷◌, Some, None, Ok, refl, sym, ◌∙◌, ap, ap₂, subst, arith}
 use Rattle.wf_model.specs.declared.limits.TheConstants.{MAX_NODES}
 use Rattle.wf_model.specs.declared.expr.Expr.{Expr}
 use Rattle.wf_model.specs.declared.expr.Expr.TheVariants as e
@@ -15,8 +15,7 @@ use Rattle.wf_phrase.specs.Expressions.{open_paren, activity_inside, truth, numb
 use Rattle.wf_grammar.specs.Lexemes.{Lexeme, lexeme_of}
 use Rattle.wf_grammar.specs.Phrases as phrase
 use Rattle.wf_grammar.specs.Phrases.{Names, Rank, Is, IsNameOf, Spells}
-use Rattle.wf_grammar.proofs.Splits.{further}
-use Rattle.wf_grammar.proofs.Inputs.{here, piece_here, piece_none, next_here, then_assoc, pure_gives, arrived}
+use Rattle.wf_grammar.proofs.Inputs.{here, piece_here, piece_none, next_here, then_assoc, pure_gives}
 use Rattle.wf_grammar.proofs.ReadSteps.{node_then, variable_then, state_then, activity_then, int_then, text_then, TookInside, inside_then, activity_inside_is}
 use Rattle.wf_grammar.proofs.Taking.{Phrase, Took, IsSound}
 
@@ -25,7 +24,7 @@ one : (i : Input) (P : Phrase) (t : Token) (rest : List Token) (at count : ℕ) 
     → P (lexeme_of i.text t ∷ []) y → nodes y ≡ 1 → count < MAX_NODES → pure y (here i rest (at + 1) (count + 1)) ≡ Ok (x, j) → Took i P (t ∷ rest) at count x j
 one i P t rest at count x y j spelled single room h =
     let gave = pure_gives y x (here i rest (at + 1) (count + 1)) j h in
-    let size : nodes x ≡ 1 = subst (λ (z : Expr). nodes z ≡ 1) gave.0 single in
+    let size : nodes x ≡ 1 = ap nodes (sym gave.0) ∙ single in
     let total : count + 1 ≡ count + nodes x = omega arith in
     record {
       words = t ∷ [];
@@ -33,7 +32,7 @@ one i P t rest at count x y j spelled single room h =
       whole = refl;
       spelled = subst (P (lexeme_of i.text t ∷ [])) gave.0 spelled;
       few = omega arith;
-      end = arrived i rest j (here i rest (at + 1) (count + 1)) (at + 1) (at + 1) (count + 1) (count + nodes x) gave.1 refl refl total;
+      end = sym gave.1 ∙ ap (here i rest (at + 1)) total;
     }
 
 module _ (i : Input) (depth : ℕ) where
@@ -82,17 +81,17 @@ tested : {A : Type 0} (i : Input) (as_this : A → Declared) (make : A → Expr)
 tested {A} i as_this make zero t rest at count x j spells single room s = absurd (let some = s.may_open in omega arith)
 tested {A} i as_this make (suc d) t rest at count x j spells single room s =
     let gave = pure_gives (make s.value) x (here i s.rest (at + 1 + 1 + 1 + 1) (count + 1)) j s.goes_on in
-    let size : nodes x ≡ 1 = subst (λ (z : Expr). nodes z ≡ 1) gave.0 (single s.value) in
+    let size : nodes x ≡ 1 = ap nodes (sym gave.0) ∙ single s.value in
     let total : count + 1 ≡ count + nodes x = omega arith in
     let place : at + 1 + 1 + 1 + 1 ≡ at + 4 = omega arith in
     let phrase = spells d (lexeme_of i.text s.opens) (lexeme_of i.text s.token) (lexeme_of i.text s.closes) s.value s.is_open s.is s.is_close in
     record {
       words = t ∷ s.opens ∷ s.token ∷ s.closes ∷ [];
       rest = s.rest;
-      whole = further (t ∷ rest) rest (s.opens ∷ s.token ∷ s.closes ∷ s.rest) t refl s.whole;
+      whole = ap (λ ls. t ∷ ls) s.whole;
       spelled = subst (Spells i.names (suc d) Rank.atom (lexeme_of i.text t ∷ lexeme_of i.text s.opens ∷ lexeme_of i.text s.token ∷ lexeme_of i.text s.closes ∷ [])) gave.0 phrase;
       few = omega arith;
-      end = arrived i s.rest j (here i s.rest (at + 1 + 1 + 1 + 1) (count + 1)) (at + 1 + 1 + 1 + 1) (at + 4) (count + 1) (count + nodes x) gave.1 refl place total;
+      end = sym gave.1 ∙ ap₂ (here i s.rest) place total;
     }
 
 in_state_in : (i : Input) (depth : ℕ) (t : Token) (rest : List Token) (at count : ℕ) (x : Expr) (j : Input) → Is pieces.In (lexeme_of i.text t)

@@ -1,5 +1,5 @@
 -- What the steps of rules do, at an input that is given by what they change of it.
-use Rattle.std.proofs.Common.{rules, arith, ◌≡◌, ℕ, ◌+◌, ◌<◌, ◌≤◌, true, nat_lt, nat_le, List, [], ◌∷◌, Option, Some, None, Ok, Err, refl, ap, sym, ◌∙◌, ap₂}
+use Rattle.std.proofs.Common.{rules, arith, ◌≡◌, ℕ, ◌+◌, ◌<◌, ◌≤◌, true, nat_lt, nat_le, List, [], ◌∷◌, Option, Some, None, Ok, Err, refl, ap}
 use Rattle.std.proofs.lemmas.Bool.Decides.{nat_tests}
 use denote.Enum.Bare.{same_true, true_same}
 use Rattle.wf_lex.specs.declared.token.Token.{Token}
@@ -103,11 +103,3 @@ pub pure_gives : {A : Type 0} (a b : A) (k j : Input) → pure a k ≡ Ok (b, j)
 pure_gives {A} a b k j h =
     let both : ◌≡◌ {A = A × Input} (a, k) (b, j) = cc in
     (ap (λ (q : A × Input). q.0) both, ap (λ (q : A × Input). q.1) both)
-
--- an input that a step left, at a place that is counted in two ways
-pub arrived : (i : Input) (rest : List Token) (j k : Input) (a b c d : ℕ) → k ≡ j → k ≡ here i rest a c → a ≡ b → c ≡ d → j ≡ here i rest b d
-arrived i rest j k a b c d same is place total = sym same ∙ is ∙ ap₂ (here i rest) place total
-
--- what a rule answers there
-pub goes_on_at : {A : Type 0} (i : Input) (f : Parser A) (x : A) (j k : Input) (rest : List Token) (a c : ℕ) → k ≡ here i rest a c → f k ≡ Ok (x, j) → f (here i rest a c) ≡ Ok (x, j)
-goes_on_at i f x j k rest a c is h = rw is at h

@@ -1,6 +1,5 @@
 pub mod Counted
 pub mod Inputs
-pub mod Splits
 pub mod ReadSteps
 pub mod Taking
 pub mod Tables

@@ -9,7 +9,7 @@ use Rattle.wf_grammar.specs.Lexemes.{Lexeme, lexeme_of, lexemes}
 use Rattle.wf_grammar.specs.Phrases.{Rank, Spells}
 use Rattle.wf_grammar.specs.Laws.{behind, IsNoOperator, SpellsOne}
 use Rattle.wf_grammar.proofs.Inputs.{pure_gives}
-use Rattle.wf_grammar.proofs.Splits.{parted}
+use Rattle.wf_grammar.proofs.SpellSteps.{parted}
 use Rattle.wf_grammar.proofs.SpelledRead.{spelled_is_read}
 
 -- nothing is no operator

@@ -1,5 +1,5 @@
 -- What each rule reads is spelled, from atoms up to expressions.
-use Rattle.std.proofs.Common.{◌≡◌, ℕ, zero, suc, ◌+◌, ◌≤◌, Bool, true, false, if◌then◌else◌, List, [], ◌∷◌, ◌++◌, length, map, drop, Ok, refl, sym, ◌∙◌, ap, ap₂, subst, arith, length-append}
+use Rattle.std.proofs.Common.{◌≡◌, ℕ, zero, suc, ◌+◌, ◌≤◌, Bool, true, false, if◌then◌else◌, List, [], ◌∷◌, ◌++◌, length, map, drop, Ok, refl, sym, ◌∙◌, ap, ap₂, subst, arith, append_assoc, length-append}
 use Rattle.std.proofs.lemmas.List.{map-append, length-map, drop_at}
 use Rattle.wf_model.specs.declared.limits.TheConstants.{MAX_NODES, MAX_OPEN}
 use Rattle.wf_model.specs.declared.expr.Expr.{Expr}
@@ -15,9 +15,8 @@ use Rattle.wf_grammar.specs.Lexemes.{Lexeme, lexeme_of, lexemes}
 use Rattle.wf_grammar.specs.Phrases as phrase
 use Rattle.wf_grammar.specs.Phrases.{Names, Rank, Is, Spells}
 use Rattle.wf_grammar.specs.Laws.{behind, ReadIsSpelled}
-use Rattle.wf_grammar.proofs.Splits.{with_last, further}
 use Rattle.wf_grammar.proofs.Counted.{nodes-Not, nodes-Neg}
-use Rattle.wf_grammar.proofs.Inputs.{here, piece_here, piece_none, next_here, sees_piece, steps_of, pure_gives, arrived, goes_on_at}
+use Rattle.wf_grammar.proofs.Inputs.{here, piece_here, piece_none, next_here, sees_piece, steps_of, pure_gives}
 use Rattle.wf_grammar.proofs.ReadSteps.{expect_then}
 use Rattle.wf_grammar.proofs.Taking.{Phrase, Took, IsSound, weaker, prefixed, stops, turn, followed, chained}
 use Rattle.wf_grammar.proofs.Tables.{or_has_sign, and_has_sign, comparison_has_sign, sum_has_sign, product_has_sign}
@@ -107,22 +106,20 @@ closed : (i : Input) (depth : ℕ) (opens : Token) (rest : List Token) (at count
     → Took i (Spells i.names depth Rank.expr) rest (at + 1) count y k → (expect pieces.CloseParen >> pure y) k ≡ Ok (x, j)
     → Took i (Spells i.names (suc depth) Rank.atom) (opens ∷ rest) at count x j
 closed i depth opens rest at count x y k j is_open took h =
-    let h' = goes_on_at i (expect pieces.CloseParen >> pure y) x j k took.rest (at + 1 + length took.words) (count + nodes y) took.end h in
+    let h' = subst (λ (m : Input). (expect pieces.CloseParen >> pure y) m ≡ Ok (x, j)) took.end h in
     let c = expect_then i pieces.CloseParen took.rest (at + 1 + length took.words) (count + nodes y) (λ _. pure y) x j h' in
     let gave = pure_gives y x (here i c.rest (at + 1 + length took.words + 1) (count + nodes y)) j c.goes_on in
     let long = length-append took.words (c.token ∷ []) in
     let place : at + 1 + length took.words + 1 ≡ at + suc (length (took.words ++ c.token ∷ [])) = omega arith in
-    let total : count + nodes y ≡ count + nodes x = ap (λ (z : Expr). count + nodes z) gave.0 in
+    let total : count + nodes y ≡ count + nodes x = ap (λ z. count + nodes z) gave.0 in
     let phrases = phrase.atom_expr (lexeme_of i.text opens) (lexeme_of i.text c.token) is_open took.spelled c.is in
     record {
       words = opens ∷ (took.words ++ c.token ∷ []);
       rest = c.rest;
-      whole = further (opens ∷ rest) rest ((took.words ++ c.token ∷ []) ++ c.rest) opens refl (with_last rest took.words took.rest c.rest c.token took.whole c.whole);
+      whole = ap (λ ls. opens ∷ ls) (took.whole ∙ ap (λ ls. took.words ++ ls) c.whole ∙ sym (append_assoc took.words (c.token ∷ []) c.rest));
       spelled = rw (map-append (lexeme_of i.text) took.words (c.token ∷ [])) (subst (Spells i.names (suc depth) Rank.atom (lexeme_of i.text opens ∷ (map (lexeme_of i.text) took.words ++ lexeme_of i.text c.token ∷ []))) gave.0 phrases);
       few = (let f = took.few in omega arith);
-      end =
-          arrived i c.rest j (here i c.rest (at + 1 + length took.words + 1) (count + nodes y)) (at + 1 + length took.words + 1) (at + suc (length (took.words ++ c.token ∷ [])))
-          (count + nodes y) (count + nodes x) gave.1 refl place total;
+      end = sym gave.1 ∙ ap₂ (here i c.rest) place total;
     }
 
 parens_sound : (i : Input) (depth : ℕ) → NestedIsSound i depth (parens depth)

@@ -16,7 +16,6 @@ use Rattle.wf_cursor.specs.Input.{Input, Outcome, Parser, and_then, ◌>>=◌, �
 use Rattle.wf_phrase.specs.Expressions.{open_paren, activity_inside}
 use Rattle.wf_grammar.specs.Lexemes.{lexeme_of}
 use Rattle.wf_grammar.specs.Phrases.{Is, IsNameOf}
-use Rattle.wf_grammar.proofs.Splits.{further}
 use Rattle.wf_grammar.proofs.Inputs.{declared_here, here, spelling_here, next_here, Seen, seen_here, less_is, fits_is, then_assoc}
 
 -- a test that was passed
@@ -108,25 +107,20 @@ name_then i left at count f y j h =
 abbrev pub Inverts : {A B : Type 0} → (A → Declared) → (Option Declared → Parser A) → (A → Parser B) → B → Input → Type 0
 Inverts {A} as_this by f y j = (d : Option Declared) (k : Input) → and_then (by d k) f ≡ Ok (y, j) → (v : A) × (d ≡ Some (as_this v)) × (f v (next k) ≡ Ok (y, j))
 
-took_name : {A B : Type 0} (i : Input) (as_this : A → Declared) (left : List Token) (at count : ℕ) (f : A → Parser B) (g : Parser B) (y : B) (j : Input)
-    → (n : NameAhead i left at count g y j) (v : A) → declared (here i (n.token ∷ n.rest) at count) ≡ Some (as_this v)
-    → f v (next (here i (n.token ∷ n.rest) at count)) ≡ Ok (y, j) → TookName i as_this left at count f y j
-took_name i as_this left at count f g y j n v is h = record {
-  value = v;
-  token = n.token;
-  rest = n.rest;
-  whole = n.whole;
-  is = record { is_name = n.is_name; is_short = n.is_short; is_declared = sym (declared_here i n.token n.rest at count) ∙ is };
-  goes_on = subst (λ (k : Input). f v k ≡ Ok (y, j)) (next_here i n.token n.rest at count) h;
-}
-
 pub name_by : {A B : Type 0} (i : Input) (as_this : A → Declared) (by : Option Declared → Parser A) (left : List Token) (at count : ℕ) (f : A → Parser B) (y : B) (j : Input)
     → Inverts as_this by f y j → and_then ((name_ahead >> (λ k. by (declared k) k)) (here i left at count)) f ≡ Ok (y, j) → TookName i as_this left at count f y j
 name_by {A} {B} i as_this by left at count f y j inverts h =
     let g : Parser B = λ k. and_then (by (declared k) k) f in
     let n = name_then i left at count (λ _. g) y j (rw then_assoc at h) in
     let v = inverts (declared (here i (n.token ∷ n.rest) at count)) (here i (n.token ∷ n.rest) at count) n.goes_on in
-    took_name i as_this left at count f g y j n v.0 v.1 v.2
+    record {
+      value = v.0;
+      token = n.token;
+      rest = n.rest;
+      whole = n.whole;
+      is = record { is_name = n.is_name; is_short = n.is_short; is_declared = sym (declared_here i n.token n.rest at count) ∙ v.1 };
+      goes_on = subst (λ (k : Input). f v.0 k ≡ Ok (y, j)) (next_here i n.token n.rest at count) v.2;
+    }
 
 variable_inverts : {B : Type 0} (f : VarId → Parser B) (y : B) (j : Input) → Inverts declared_as_a.Var variable_by f y j
 variable_inverts f y j (Some (declared_as_a.Var x)) k h = (x, refl, h)
@@ -167,19 +161,6 @@ pub record TookValue {A B : Type 0} (i : Input) (p : Piece) (reads : List ℕ �
   pub is_read : reads (lexeme_of i.text token).bytes ≡ Some value
   pub goes_on : f value (here i rest (at + 1) count) ≡ Ok (y, j)
 
-took_value : {A B : Type 0} (i : Input) (p : Piece) (reads : List ℕ → Option A) (left : List Token) (at count : ℕ) (f : A → Parser B) (y : B) (j : Input)
-    → (s : Seen i p left) (v : A) → reads (spelling (here i (s.token ∷ s.rest) at count)) ≡ Some v
-    → f v (next (here i (s.token ∷ s.rest) at count)) ≡ Ok (y, j) → TookValue i p reads left at count f y j
-took_value i p reads left at count f y j s v is h = record {
-  value = v;
-  token = s.token;
-  rest = s.rest;
-  whole = s.whole;
-  is = s.is;
-  is_read = ap reads (sym (spelling_here i s.token s.rest at count)) ∙ is;
-  goes_on = subst (λ (k : Input). f v k ≡ Ok (y, j)) (next_here i s.token s.rest at count) h;
-}
-
 pub value_by : {A B : Type 0} (i : Input) (p : Piece) (reads : List ℕ → Option A) (by : Option A → Parser A) (left : List Token) (at count : ℕ) (f : A → Parser B) (y : B) (j : Input)
     → ((d : Option A) (k : Input) → and_then (by d k) f ≡ Ok (y, j) → (v : A) × (d ≡ Some v) × (f v (next k) ≡ Ok (y, j)))
     → and_then (if sees p (here i left at count) then by (reads (spelling (here i left at count))) (here i left at count) else syntax (here i left at count)) f ≡ Ok (y, j)
@@ -189,7 +170,15 @@ value_by i p reads by left at count f y j inverts h =
     let s = seen_here i p left at count q.0 in
     let h' : and_then (by (reads (spelling (here i (s.token ∷ s.rest) at count))) (here i (s.token ∷ s.rest) at count)) f ≡ Ok (y, j) = rw s.whole at q.1 in
     let v = inverts (reads (spelling (here i (s.token ∷ s.rest) at count))) (here i (s.token ∷ s.rest) at count) h' in
-    took_value i p reads left at count f y j s v.0 v.1 v.2
+    record {
+      value = v.0;
+      token = s.token;
+      rest = s.rest;
+      whole = s.whole;
+      is = s.is;
+      is_read = ap reads (sym (spelling_here i s.token s.rest at count)) ∙ v.1;
+      goes_on = subst (λ (k : Input). f v.0 k ≡ Ok (y, j)) (next_here i s.token s.rest at count) v.2;
+    }
 
 pub int_inverts : {B : Type 0} (f : ℕ → Parser B) (y : B) (j : Input) (d : Option ℕ) (k : Input) → and_then (int_by d k) f ≡ Ok (y, j) → (n : ℕ) × (d ≡ Some n) × (f n (next k) ≡ Ok (y, j))
 int_inverts f y j (Some n) k h = (n, refl, h)
@@ -238,8 +227,7 @@ inside_then {B = B} i as_this p takes depth left at count f y j h =
       closes = c.token;
       rest = c.rest;
       may_open = o.0;
-      whole =
-          further left o.1.rest (n.token ∷ c.token ∷ c.rest) o.1.token o.1.whole (further o.1.rest n.rest (c.token ∷ c.rest) n.token n.whole c.whole);
+      whole = o.1.whole ∙ ap (λ ls. o.1.token ∷ ls) (n.whole ∙ ap (λ ls. n.token ∷ ls) c.whole);
       is_open = o.1.is;
       is = n.is;
       is_close = c.is;

@@ -1,5 +1,5 @@
 -- What is spelled is read: how that is shown of rules that are made of rules.
-use Rattle.std.proofs.Common.{◌≡◌, ℕ, zero, suc, ◌+◌, ◌<◌, ◌≤◌, List, ◌∷◌, ◌++◌, length, map, Option, Some, None, Ok, refl, sym, ◌∙◌, ap, ap₂, subst, arith, length-append}
+use Rattle.std.proofs.Common.{◌≡◌, ℕ, zero, suc, ◌+◌, ◌<◌, ◌≤◌, List, ◌∷◌, ◌++◌, length, map, Option, Some, None, Ok, refl, sym, ◌∙◌, ap, ap₂, subst, arith, append_assoc, length-append}
 use Rattle.wf_model.specs.declared.limits.TheConstants.{MAX_NODES}
 use Rattle.wf_model.specs.declared.expr.Op.{Op}
 use Rattle.wf_model.specs.declared.expr.Expr.{Expr}
@@ -13,8 +13,7 @@ use Rattle.wf_grammar.specs.Lexemes.{Lexeme, lexeme_of}
 use Rattle.wf_grammar.specs.Laws.{first_piece}
 use Rattle.wf_grammar.proofs.Counted.{nodes-Bin}
 use Rattle.wf_grammar.proofs.Inputs.{here, piece_here, next_here}
-use Rattle.wf_grammar.proofs.Splits.{between}
-use Rattle.wf_grammar.proofs.SpellSteps.{node_here, piece_first}
+use Rattle.wf_grammar.proofs.SpellSteps.{node_here, piece_first, parted, headed}
 
 -- what may follow
 abbrev pub Follow : Type 1
@@ -77,29 +76,30 @@ module _ (i : Input) (May : Follow) (operator : Option Piece → Option Op) (ope
   one_more (suc m) t words rest vs at count op x y enough is reads words_are few may =
       (m, omega (arith, length-append words rest), turn_reads (chain_from operator operand m) t words rest vs at count op x y is reads words_are few may)
 
-  -- a chain that came behind a front part, and then went on
-  behind_more : (words rest : List Token) (at count : ℕ) (x y : Expr) (left right : List Token) (n a c m : ℕ) → words ++ rest ≡ left ++ right
-      → chain operator operand (here i (left ++ right) at count) ≡ chain_from operator operand n x (here i right (at + length left) (count + nodes x))
-      → chain_from operator operand n x (here i right (at + length left) (count + nodes x)) ≡ chain_from operator operand m y (here i rest a c)
-      → length rest ≤ m → a ≡ at + length words → c ≡ count + nodes y → IsBehind words rest at count y
-  behind_more words rest at count x y left right n a c m whole behind further enough place total = record {
-    turns = m;
-    enough = enough;
-    behind = ap (λ (ls : List Token). chain operator operand (here i ls at count)) whole ∙ behind ∙ further ∙ ap₂ (λ (k l : ℕ). chain_from operator operand m y (here i rest k l)) place total;
-  }
-
   pub chain_goes_on : (us vs : List Lexeme) (w : Lexeme) (op : Op) (x y : Expr) → ReadsOn us x → operator (Some w.piece) ≡ Some op → May (Some w.piece) → ReadsAs i May operand vs y
       → ReadsOn (us ++ w ∷ vs) (e.Bin op x y)
   chain_goes_on us vs w op x y first is may_follow second words rest at count words_are few may =
-      let s = between (lexeme_of i.text) us w vs words words_are in
+      let f = lexeme_of i.text in
+      let p = parted f us (w ∷ vs) words words_are in
+      let h = headed f w vs p.right p.right_is in
       let size = nodes-Bin op x y in
-      let sized = s.sized in
-      let is_token : operator (Some (lexeme_of i.text s.token).piece) ≡ Some op = subst (λ (v : Lexeme). operator (Some v.piece) ≡ Some op) (sym s.token_is) is in
-      let may_token : May (Some (lexeme_of i.text s.token).piece) = subst (λ (v : Lexeme). May (Some v.piece)) (sym s.token_is) may_follow in
-      let a = first s.left (s.token ∷ (s.right ++ rest)) at count s.left_is (omega arith) may_token in
-      let b = one_more a.turns s.token s.right rest vs (at + length s.left) (count + nodes x) op x y a.enough is_token second s.right_is (omega arith) may in
-      behind_more words rest at count x (e.Bin op x y) s.left (s.token ∷ (s.right ++ rest)) a.turns (at + length s.left + 1 + length s.right) (count + nodes x + 1 + nodes y) b.0
-      (s.before rest) a.behind b.2 b.1 (omega arith) (omega arith)
+      let long = length-append p.left (h.token ∷ h.rest) in
+      let sized : length words ≡ length p.left + suc (length h.rest) = ap length (p.whole ∙ ap (λ ls. p.left ++ ls) h.whole) ∙ long in
+      let whole : words ++ rest ≡ p.left ++ (h.token ∷ (h.rest ++ rest)) =
+      ap (λ ls. ls ++ rest) (p.whole ∙ ap (λ ls. p.left ++ ls) h.whole) ∙ append_assoc p.left (h.token ∷ h.rest) rest in
+      let is_token : operator (Some (f h.token).piece) ≡ Some op = ap (λ (v : Lexeme). operator (Some v.piece)) h.token_is ∙ is in
+      let may_token : May (Some (f h.token).piece) = subst (λ (v : Lexeme). May (Some v.piece)) (sym h.token_is) may_follow in
+      let a = first p.left (h.token ∷ (h.rest ++ rest)) at count p.left_is (omega arith) may_token in
+      let b = one_more a.turns h.token h.rest rest vs (at + length p.left) (count + nodes x) op x y a.enough is_token second h.rest_is (omega arith) may in
+      let place : at + length p.left + 1 + length h.rest ≡ at + length words = omega arith in
+      let total : count + nodes x + 1 + nodes y ≡ count + nodes (e.Bin op x y) = omega arith in
+      record {
+        turns = b.0;
+        enough = b.1;
+        behind =
+            ap (λ (ls : List Token). chain operator operand (here i ls at count)) whole ∙ a.behind ∙ b.2
+            ∙ ap₂ (λ (a c : ℕ). chain_from operator operand b.0 (e.Bin op x y) (here i rest a c)) place total;
+      }
 
   -- no operator follows
   chain_ends : (n : ℕ) (rest : List Token) (at count : ℕ) (x : Expr) → operator (first_piece (map (lexeme_of i.text) rest)) ≡ None

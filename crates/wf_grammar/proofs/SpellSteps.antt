@@ -1,5 +1,5 @@
 -- What a step answers, where the next token is what it wants.
-use Rattle.std.proofs.Common.{◌≡◌, ℕ, suc, ◌+◌, ◌<◌, ◌==◌, true, false, nat_le, List, [], ◌∷◌, length, Some, Ok, refl, ◌∙◌, ap, map, arith}
+use Rattle.std.proofs.Common.{◌≡◌, ℕ, suc, ◌+◌, ◌<◌, ◌==◌, true, false, nat_le, List, [], ◌∷◌, length, Some, Ok, refl, ◌∙◌, ap, ap₂, map, ◌++◌, arith}
 use Rattle.std.proofs.lemmas.Bool.Decides.{nat_tests}
 use Rattle.wf_model.specs.declared.limits.TheConstants.{MAX_NAME, MAX_NODES}
 use Rattle.wf_model.specs.declared.ids.VarId.{VarId}
@@ -15,7 +15,7 @@ use Rattle.wf_cursor.specs.Values.{number_up_to, short_text}
 use Rattle.wf_cursor.specs.Input as input
 use Rattle.wf_cursor.specs.Input.{Input, piece, spelling, next, sees, node, expect, declared, name_ahead, int_up_to}
 use Rattle.wf_phrase.specs.Expressions.{open_paren}
-use Rattle.wf_grammar.specs.Lexemes.{lexeme_of}
+use Rattle.wf_grammar.specs.Lexemes.{Lexeme, lexeme_of}
 use Rattle.wf_grammar.specs.Phrases.{Is, IsNameOf}
 use Rattle.wf_grammar.specs.Laws.{first_piece}
 use Rattle.wf_grammar.proofs.Inputs.{here, piece_here, piece_none, spelling_here, next_here, declared_here, piece_sees, is_less, is_fit}
@@ -75,3 +75,36 @@ module _ (i : Input) (t : Token) (rest : List Token) (at count : ℕ) where
 pub piece_first : (i : Input) (left : List Token) (at count : ℕ) → piece (here i left at count) ≡ first_piece (map (lexeme_of i.text) left)
 piece_first i [] at count = piece_none i at count
 piece_first i (t ∷ rest) at count = piece_here i t rest at count
+
+-- ---- tokens whose lexemes are given
+
+pub record Parted (f : Token → Lexeme) (us vs : List Lexeme) (words : List Token) : Type 0 where
+  pub left : List Token
+  pub right : List Token
+  pub whole : words ≡ left ++ right
+  pub left_is : map f left ≡ us
+  pub right_is : map f right ≡ vs
+
+pub parted : (f : Token → Lexeme) (us vs : List Lexeme) (words : List Token) → map f words ≡ us ++ vs → Parted f us vs words
+parted f [] vs words h = record { left = []; right = words; whole = refl; left_is = refl; right_is = h }
+parted f (w ∷ us) vs [] h = cc
+parted f (w ∷ us) vs (t ∷ words) h =
+    let head : f t ≡ w = cc in
+    let tail : map f words ≡ us ++ vs = cc in
+    let p = parted f us vs words tail in
+    record { left = t ∷ p.left; right = p.right; whole = ap (λ ls. t ∷ ls) p.whole; left_is = ap₂ (λ (v : Lexeme) (l : List Lexeme). v ∷ l) head p.left_is; right_is = p.right_is }
+
+pub record Headed (f : Token → Lexeme) (w : Lexeme) (ws : List Lexeme) (words : List Token) : Type 0 where
+  pub token : Token
+  pub rest : List Token
+  pub whole : words ≡ token ∷ rest
+  pub token_is : f token ≡ w
+  pub rest_is : map f rest ≡ ws
+
+pub headed : (f : Token → Lexeme) (w : Lexeme) (ws : List Lexeme) (words : List Token) → map f words ≡ w ∷ ws → Headed f w ws words
+headed f w ws [] h = cc
+headed f w ws (t ∷ words) h = record { token = t; rest = words; whole = refl; token_is = (cc); rest_is = (cc) }
+
+pub emptied : (f : Token → Lexeme) (words : List Token) → map f words ≡ [] → words ≡ []
+emptied f [] h = refl
+emptied f (t ∷ words) h = cc

@@ -12,14 +12,13 @@ use Rattle.wf_cursor.specs.declared.value.TheConstants.{MAX_INT}
 use Rattle.wf_cursor.specs.declared.names.Declared.TheVariants as declared_as_a
 use Rattle.wf_cursor.specs.declared.piece.Piece.TheVariants as pieces
 use Rattle.wf_cursor.specs.Values.{number_up_to, short_text}
-use Rattle.wf_cursor.specs.Input.{Input, Parser, ◌>>=◌, pure}
+use Rattle.wf_cursor.specs.Input.{Input, Parser, ◌>>=◌, pure, piece}
 use Rattle.wf_phrase.specs.Expressions.{activity_inside, truth, number, characters, variable, in_state, count_of, done_of, atom, atom_by}
 use Rattle.wf_grammar.specs.Lexemes.{Lexeme, lexeme_of}
 use Rattle.wf_grammar.specs.Phrases.{Is, IsNameOf}
 use Rattle.wf_grammar.proofs.Inputs.{here, piece_here, next_here}
 use Rattle.wf_grammar.proofs.ReadSteps.{activity_inside_is}
-use Rattle.wf_grammar.proofs.Splits.{single, four}
-use Rattle.wf_grammar.proofs.SpellSteps.{node_here, expect_here, open_here, variable_here, state_here, activity_here, int_here, text_here}
+use Rattle.wf_grammar.proofs.SpellSteps.{node_here, expect_here, open_here, variable_here, state_here, activity_here, int_here, text_here, headed, emptied}
 use Rattle.wf_grammar.proofs.Reading.{ReadsAs}
 use Rattle.wf_grammar.proofs.Follows.{Anything}
 
@@ -31,12 +30,14 @@ one_reads : (i : Input) (depth : ℕ) (nested : Parser Expr) (w : Lexeme) (x : E
     → atom_by depth nested (Some w.piece) (here i (t ∷ rest) at count) ≡ Ok (x, here i rest (at + 1) (count + 1)))
     → ReadsAs i Anything (atom depth nested) (w ∷ []) x
 unfolding atom
-one_reads i depth nested w x size reads words rest at count is few may =
-    let h = single (lexeme_of i.text) w words is in
+one_reads i depth nested w x single reads words rest at count is few may =
+    let h = headed (lexeme_of i.text) w [] words is in
+    let none = emptied (lexeme_of i.text) h.rest h.rest_is in
+    let whole : words ≡ h.token ∷ [] = h.whole ∙ ap (λ ls. h.token ∷ ls) none in
     let room : count < MAX_NODES = omega arith in
     let total : count + 1 ≡ count + nodes x = omega arith in
-    rw h.whole (rw (piece_here i h.token rest at count) (rw (ap (λ (v : Lexeme). v.piece) h.token_is)
-    (rw (reads h.token rest at count h.token_is room) (ap (λ (c : ℕ). Ok (x, here i rest (at + 1) c)) total))))
+    let is_piece : piece (here i (h.token ∷ rest) at count) ≡ Some w.piece = piece_here i h.token rest at count ∙ ap (λ (v : Lexeme). Some v.piece) h.token_is in
+    rw whole (rw is_piece (reads h.token rest at count h.token_is room ∙ ap (λ (c : ℕ). Ok (x, here i rest (at + 1) c)) total))
 
 -- the word of a test, and in parentheses a name of this kind
 module _ (i : Input) (depth : ℕ) (nested : Parser Expr) (test opens w closes : Lexeme) (is_open : Is pieces.OpenParen opens) (is_close : Is pieces.CloseParen closes) where
@@ -46,15 +47,23 @@ module _ (i : Input) (depth : ℕ) (nested : Parser Expr) (test opens w closes :
       → atom_by (suc depth) nested (Some test.piece) (here i (t ∷ o ∷ n ∷ c ∷ rest) at count) ≡ Ok (x, here i rest (at + 1 + 1 + 1 + 1) (count + 1)))
       → ReadsAs i Anything (atom (suc depth) nested) (test ∷ opens ∷ w ∷ closes ∷ []) x
   unfolding atom
-  test_reads x size reads words rest at count is few may =
-      let h = four (lexeme_of i.text) test opens w closes words is in
+  test_reads x single reads words rest at count is few may =
+      let f = lexeme_of i.text in
+      let t = headed f test (opens ∷ w ∷ closes ∷ []) words is in
+      let o = headed f opens (w ∷ closes ∷ []) t.rest t.rest_is in
+      let n = headed f w (closes ∷ []) o.rest o.rest_is in
+      let c = headed f closes [] n.rest n.rest_is in
+      let none = emptied f c.rest c.rest_is in
+      let whole : words ≡ t.token ∷ o.token ∷ n.token ∷ c.token ∷ [] =
+      t.whole ∙ ap (λ ls. t.token ∷ ls) (o.whole ∙ ap (λ ls. o.token ∷ ls) (n.whole ∙ ap (λ ls. n.token ∷ ls) (c.whole ∙ ap (λ ls. c.token ∷ ls) none))) in
       let room : count < MAX_NODES = omega arith in
       let place : at + 1 + 1 + 1 + 1 ≡ at + 4 = omega arith in
       let total : count + 1 ≡ count + nodes x = omega arith in
-      let opening : Is pieces.OpenParen (lexeme_of i.text h.second) = subst (Is pieces.OpenParen) (sym h.second_is) is_open in
-      let closing : Is pieces.CloseParen (lexeme_of i.text h.fourth) = subst (Is pieces.CloseParen) (sym h.fourth_is) is_close in
-      rw h.whole (rw (piece_here i h.first (h.second ∷ h.third ∷ h.fourth ∷ rest) at count) (rw (ap (λ (v : Lexeme). v.piece) h.first_is)
-      (rw (reads h.first h.second h.third h.fourth rest at count opening h.third_is closing room) (ap₂ (λ (a k : ℕ). Ok (x, here i rest a k)) place total))))
+      let opening : Is pieces.OpenParen (f o.token) = ap (λ (v : Lexeme). v.piece) o.token_is ∙ is_open in
+      let closing : Is pieces.CloseParen (f c.token) = ap (λ (v : Lexeme). v.piece) c.token_is ∙ is_close in
+      let is_piece : piece (here i (t.token ∷ o.token ∷ n.token ∷ c.token ∷ rest) at count) ≡ Some test.piece =
+      piece_here i t.token (o.token ∷ n.token ∷ c.token ∷ rest) at count ∙ ap (λ (v : Lexeme). Some v.piece) t.token_is in
+      rw whole (rw is_piece (reads t.token o.token n.token c.token rest at count opening n.token_is closing room ∙ ap₂ (λ (a k : ℕ). Ok (x, here i rest a k)) place total))
 
 module _ (i : Input) (depth : ℕ) (nested : Parser Expr) where
   abbrev Atom : List Lexeme → Expr → Type 0

@@ -1,5 +1,5 @@
 -- What is spelled is read, from atoms up to expressions.
-use Rattle.std.proofs.Common.{◌≡◌, ℕ, suc, ◌+◌, ◌≤◌, Bool, true, false, List, [], ◌∷◌, ◌++◌, length, map, drop, Some, Ok, Err, refl, sym, ◌∙◌, ap, ap₂, subst, arith}
+use Rattle.std.proofs.Common.{◌≡◌, ℕ, suc, ◌+◌, ◌≤◌, Bool, true, false, List, [], ◌∷◌, ◌++◌, length, map, drop, Some, Ok, Err, refl, sym, ◌∙◌, ap, ap₂, subst, arith, append_assoc, length-append}
 use Rattle.std.proofs.lemmas.List.{drop_at, length-map}
 use Rattle.wf_model.specs.declared.limits.TheConstants.{MAX_NODES, MAX_OPEN}
 use Rattle.wf_model.specs.declared.expr.Op.{Op}
@@ -20,8 +20,7 @@ use Rattle.wf_grammar.specs.Phrases.{Rank, Is, Spells}
 use Rattle.wf_grammar.specs.Laws.{first_piece, IsNoOperator, SpelledIsRead}
 use Rattle.wf_grammar.proofs.Counted.{nodes-Not, nodes-Neg, nodes-Bin}
 use Rattle.wf_grammar.proofs.Inputs.{here, piece_here, next_here, sees_piece}
-use Rattle.wf_grammar.proofs.Splits.{parted, headed, between, enclosed}
-use Rattle.wf_grammar.proofs.SpellSteps.{sees_here, expect_here, piece_first}
+use Rattle.wf_grammar.proofs.SpellSteps.{sees_here, expect_here, piece_first, parted, headed, emptied}
 use Rattle.wf_grammar.proofs.Tables.{or_found, and_found, comparison_found, sum_found, product_found}
 use Rattle.wf_grammar.proofs.Reading.{ReadsAs, prefix_reads, turn_reads, ReadsOn, chain_begins, chain_goes_on, chain_reads}
 use Rattle.wf_grammar.proofs.Follows.{Anything, EndsProd, EndsSum, EndsComp, EndsConj, EndsExpr, sum_ends, comparison_ends, and_ends, or_ends, close_ends, no_operator_ends}
@@ -77,7 +76,7 @@ module _ (i : Input) (depth : ℕ) (nested : Parser Expr) where
   unfolding unary_from
   minus_reads w ws x is_minus reads words rest at count is few may =
       let h = headed (lexeme_of i.text) w ws words is in
-      let minus : Is pieces.Minus (lexeme_of i.text h.token) = subst (Is pieces.Minus) (sym h.token_is) is_minus in
+      let minus : Is pieces.Minus (lexeme_of i.text h.token) = ap (λ (v : Lexeme). v.piece) h.token_is ∙ is_minus in
       rw h.whole (rw (sees_here i h.token (h.rest ++ rest) at count pieces.Minus minus)
       (prefix_reads i e.Neg nodes-Neg (unary_from depth nested (length (h.rest ++ rest))) x h.token h.rest rest at count few (λ fits. reads h.rest rest (at + 1) (count + 1) h.rest_is fits may)))
 
@@ -85,7 +84,7 @@ module _ (i : Input) (depth : ℕ) (nested : Parser Expr) where
   unfolding neg_from
   not_reads w ws x is_not reads words rest at count is few may =
       let h = headed (lexeme_of i.text) w ws words is in
-      let word : Is pieces.Not (lexeme_of i.text h.token) = subst (Is pieces.Not) (sym h.token_is) is_not in
+      let word : Is pieces.Not (lexeme_of i.text h.token) = ap (λ (v : Lexeme). v.piece) h.token_is ∙ is_not in
       rw h.whole (rw (sees_here i h.token (h.rest ++ rest) at count pieces.Not word)
       (prefix_reads i e.Not nodes-Not (neg_from depth nested (length (h.rest ++ rest))) x h.token h.rest rest at count few (λ fits. reads h.rest rest (at + 1) (count + 1) h.rest_is fits may)))
 
@@ -100,31 +99,44 @@ module _ (i : Input) (depth : ℕ) (nested : Parser Expr) where
       → ReadsAs i EndsSum (sum depth nested) vs y → ReadsAs i EndsComp (comp depth nested) (us ++ w ∷ vs) (e.Bin op x y)
   unfolding comp
   compared us vs w op x y first is second words rest at count words_are few may =
-      let s = between (lexeme_of i.text) us w vs words words_are in
+      let f = lexeme_of i.text in
+      let p = parted f us (w ∷ vs) words words_are in
+      let h = headed f w vs p.right p.right_is in
       let size = nodes-Bin op x y in
-      let sized = s.sized in
-      let is_token : comparison (Some (lexeme_of i.text s.token).piece) ≡ Some op = subst (λ (v : Lexeme). comparison (Some v.piece) ≡ Some op) (sym s.token_is) is in
-      let left_reads = first s.left (s.token ∷ (s.right ++ rest)) at count s.left_is (omega arith) (comparison_ends (lexeme_of i.text s.token).piece op is_token) in
-      let right_reads = turn_reads i EndsSum comparison (sum depth nested) pure s.token s.right rest vs (at + length s.left) (count + nodes x) op x y is_token second s.right_is (omega arith) may.0 in
-      let place : at + length s.left + 1 + length s.right ≡ at + length words = omega arith in
+      let long = length-append p.left (h.token ∷ h.rest) in
+      let sized : length words ≡ length p.left + suc (length h.rest) = ap length (p.whole ∙ ap (λ ls. p.left ++ ls) h.whole) ∙ long in
+      let whole : words ++ rest ≡ p.left ++ (h.token ∷ (h.rest ++ rest)) =
+      ap (λ ls. ls ++ rest) (p.whole ∙ ap (λ ls. p.left ++ ls) h.whole) ∙ append_assoc p.left (h.token ∷ h.rest) rest in
+      let is_token : comparison (Some (f h.token).piece) ≡ Some op = ap (λ (v : Lexeme). comparison (Some v.piece)) h.token_is ∙ is in
+      let left_reads = first p.left (h.token ∷ (h.rest ++ rest)) at count p.left_is (omega arith) (comparison_ends (f h.token).piece op is_token) in
+      let right_reads = turn_reads i EndsSum comparison (sum depth nested) pure h.token h.rest rest vs (at + length p.left) (count + nodes x) op x y is_token second h.rest_is (omega arith) may.0 in
+      let place : at + length p.left + 1 + length h.rest ≡ at + length words = omega arith in
       let total : count + nodes x + 1 + nodes y ≡ count + nodes (e.Bin op x y) = omega arith in
-      rw (s.before rest) (rw left_reads (rw right_reads (ap₂ (λ (a c : ℕ). Ok (e.Bin op x y, here i rest a c)) place total)))
+      rw whole (rw left_reads (right_reads ∙ ap₂ (λ (a c : ℕ). Ok (e.Bin op x y, here i rest a c)) place total))
 
 -- ---- parentheses
 
-parens_reads : (i : Input) (depth : ℕ) (opens closes : Lexeme) (ws : List Lexeme) (x : Expr) → Is pieces.OpenParen opens → Is pieces.CloseParen closes
+enclosed : (i : Input) (depth : ℕ) (opens closes : Lexeme) (ws : List Lexeme) (x : Expr) → Is pieces.OpenParen opens → Is pieces.CloseParen closes
     → ReadsAs i EndsExpr (disj depth (parens depth)) ws x → ReadsAs i Anything (atom (suc depth) (parens (suc depth))) (opens ∷ (ws ++ closes ∷ [])) x
 unfolding atom parens
-parens_reads i depth opens closes ws x is_open is_close reads words rest at count is few may =
-    let s = enclosed (lexeme_of i.text) opens closes ws words is in
-    let sized = s.sized in
-    let opening : Is pieces.OpenParen (lexeme_of i.text s.opening) = subst (Is pieces.OpenParen) (sym s.opening_is) is_open in
-    let closing : Is pieces.CloseParen (lexeme_of i.text s.closing) = subst (Is pieces.CloseParen) (sym s.closing_is) is_close in
-    let place : at + 1 + length s.inner + 1 ≡ at + length words = omega arith in
-    rw (s.before rest) (rw (piece_here i s.opening (s.inner ++ (s.closing ∷ rest)) at count) (rw opening (rw (next_here i s.opening (s.inner ++ (s.closing ∷ rest)) at count)
-    (rw (reads s.inner (s.closing ∷ rest) (at + 1) count s.inner_is few (close_ends (lexeme_of i.text s.closing).piece closing))
-    (rw (expect_here i s.closing rest (at + 1 + length s.inner) (count + nodes x) pieces.CloseParen closing)
-    (ap (λ (a : ℕ). Ok (x, here i rest a (count + nodes x))) place))))))
+enclosed i depth opens closes ws x is_open is_close reads words rest at count is few may =
+    let f = lexeme_of i.text in
+    let o = headed f opens (ws ++ closes ∷ []) words is in
+    let p = parted f ws (closes ∷ []) o.rest o.rest_is in
+    let c = headed f closes [] p.right p.right_is in
+    let none = emptied f c.rest c.rest_is in
+    let inner : o.rest ≡ p.left ++ c.token ∷ [] = p.whole ∙ ap (λ ls. p.left ++ ls) (c.whole ∙ ap (λ ls. c.token ∷ ls) none) in
+    let whole : words ++ rest ≡ o.token ∷ (p.left ++ (c.token ∷ rest)) =
+    ap (λ ls. ls ++ rest) (o.whole ∙ ap (λ ls. o.token ∷ ls) inner) ∙ ap (λ ls. o.token ∷ ls) (append_assoc p.left (c.token ∷ []) rest) in
+    let sized : length words ≡ suc (length p.left + 1) = ap length (o.whole ∙ ap (λ ls. o.token ∷ ls) inner) ∙ ap suc (length-append p.left (c.token ∷ [])) in
+    let opening : piece (here i (o.token ∷ (p.left ++ (c.token ∷ rest))) at count) ≡ Some pieces.OpenParen =
+    piece_here i o.token (p.left ++ (c.token ∷ rest)) at count ∙ ap Some (ap (λ (v : Lexeme). v.piece) o.token_is ∙ is_open) in
+    let closing : Is pieces.CloseParen (f c.token) = ap (λ (v : Lexeme). v.piece) c.token_is ∙ is_close in
+    let place : at + 1 + length p.left + 1 ≡ at + length words = omega arith in
+    rw whole (rw opening (rw (next_here i o.token (p.left ++ (c.token ∷ rest)) at count)
+    (rw (reads p.left (c.token ∷ rest) (at + 1) count p.left_is few (close_ends (f c.token).piece closing))
+    (rw (expect_here i c.token rest (at + 1 + length p.left) (count + nodes x) pieces.CloseParen closing)
+    (ap (λ (a : ℕ). Ok (x, here i rest a (count + nodes x))) place)))))
 
 -- ---- each line, by the spelling
 
@@ -184,7 +196,7 @@ module _ (i : Input) where
   spelled_reads (phrase.atom_in {depth = d} test opens w closes s is o n c) = state_reads i d (parens (suc d)) test opens w closes s is o n c
   spelled_reads (phrase.atom_count {depth = d} test opens w closes a is o n c) = count_reads i d (parens (suc d)) test opens w closes a is o n c
   spelled_reads (phrase.atom_done {depth = d} test opens w closes a is o n c) = done_reads i d (parens (suc d)) test opens w closes a is o n c
-  spelled_reads (phrase.atom_expr {depth = d} {ws = ws} {x = x} opens closes o s c) = parens_reads i d opens closes ws x o c (whole_expr d ws x (spelled_reads s))
+  spelled_reads (phrase.atom_expr {depth = d} {ws = ws} {x = x} opens closes o s c) = enclosed i d opens closes ws x o c (whole_expr d ws x (spelled_reads s))
 
 -- an expression is read from the start, in the laws' words
 pub spelled_is_read : SpelledIsRead

@@ -1,5 +1,5 @@
 -- What a rule took is spelled: how that is shown of rules that are made of rules.
-use Rattle.std.proofs.Common.{◌≡◌, ℕ, zero, suc, ◌+◌, ◌≤◌, List, [], ◌∷◌, ◌++◌, length, map, Option, Some, None, Ok, refl, sym, subst, arith, length-append}
+use Rattle.std.proofs.Common.{◌≡◌, ℕ, zero, suc, ◌+◌, ◌≤◌, List, [], ◌∷◌, ◌++◌, length, map, Option, Some, None, Ok, refl, sym, ◌∙◌, ap, ap₂, subst, arith, append_assoc, length-append}
 use Rattle.std.proofs.lemmas.List.{map-append}
 use Rattle.wf_model.specs.declared.limits.TheConstants.{MAX_NODES}
 use Rattle.wf_model.specs.declared.expr.Op.{Op}
@@ -11,9 +11,8 @@ use Rattle.wf_cursor.specs.declared.piece.Piece.{Piece}
 use Rattle.wf_cursor.specs.Input.{Input, Parser, and_then, ◌>>=◌, ◌>>◌, pure, take, piece, node}
 use Rattle.wf_phrase.specs.Expressions.{chain_by, chain_from, chain}
 use Rattle.wf_grammar.specs.Lexemes.{Lexeme, lexeme_of}
-use Rattle.wf_grammar.proofs.Splits.{rejoined, further}
 use Rattle.wf_grammar.proofs.Counted.{nodes-Bin}
-use Rattle.wf_grammar.proofs.Inputs.{here, piece_here, piece_none, next_here, steps_of, pure_gives, arrived, goes_on_at}
+use Rattle.wf_grammar.proofs.Inputs.{here, piece_here, piece_none, next_here, steps_of, pure_gives}
 use Rattle.wf_grammar.proofs.ReadSteps.{node_then}
 
 -- which lexemes spell which expressions
@@ -37,10 +36,6 @@ IsSound i P p = (left : List Token) (at count : ℕ) (x : Expr) (j : Input) → 
 pub weaker : (i : Input) (P Q : Phrase) → ((ws : List Lexeme) (x : Expr) → P ws x → Q ws x) → (left : List Token) (at count : ℕ) (x : Expr) (j : Input) → Took i P left at count x j → Took i Q left at count x j
 weaker i P Q f left at count x j t = record { words = t.words; rest = t.rest; whole = t.whole; spelled = f (map (lexeme_of i.text) t.words) x t.spelled; few = t.few; end = t.end }
 
--- the same tokens
-along : (i : Input) (P : Phrase) (left left' : List Token) (at count : ℕ) (x : Expr) (j : Input) → left ≡ left' → Took i P left at count x j → Took i P left' at count x j
-along i P left left' at count x j same t = rw same at t
-
 -- ---- a token that makes a node, and a phrase behind it
 
 module _ (i : Input) (P : Phrase) (make : Expr → Expr) (counted : (x : Expr) → nodes (make x) ≡ nodes x + 1) (p : Parser Expr) (sound : IsSound i P p) where
@@ -54,16 +49,16 @@ module _ (i : Input) (P : Phrase) (make : Expr → Expr) (counted : (x : Expr) �
       let s = steps_of (p (here i rest (at + 1) (count + 1))) (λ y. pure (make y)) x j h' in
       let took = sound rest (at + 1) (count + 1) s.value s.between s.first in
       let made = pure_gives (make s.value) x s.between j s.second in
-      let size : nodes x ≡ nodes s.value + 1 = subst (λ (y : Expr). nodes y ≡ nodes s.value + 1) made.0 (counted s.value) in
+      let size : nodes x ≡ nodes s.value + 1 = ap nodes (sym made.0) ∙ counted s.value in
       let place : at + 1 + length took.words ≡ at + suc (length took.words) = omega arith in
       let total : count + 1 + nodes s.value ≡ count + nodes x = omega arith in
       record {
         words = t ∷ took.words;
         rest = took.rest;
-        whole = further (t ∷ rest) rest (took.words ++ took.rest) t refl took.whole;
+        whole = ap (λ ls. t ∷ ls) took.whole;
         spelled = subst (P (lexeme_of i.text t ∷ map (lexeme_of i.text) took.words)) made.0 (wraps (map (lexeme_of i.text) took.words) s.value took.spelled);
         few = (let f = took.few in omega arith);
-        end = arrived i took.rest j s.between (at + 1 + length took.words) (at + suc (length took.words)) (count + 1 + nodes s.value) (count + nodes x) made.1 took.end place total;
+        end = sym made.1 ∙ took.end ∙ ap₂ (here i took.rest) place total;
       }
 
 -- ---- an operator and its right side, behind a left side that was read before
@@ -86,14 +81,14 @@ pub stops : (i : Input) (P : Phrase) → GoesOn i P P pure
 stops i P at0 count0 words left at count l x j b h =
     let gave = pure_gives l x (here i left at count) j h in
     let place = b.place in
-    let total : count ≡ count0 + nodes x = subst (λ (y : Expr). count ≡ count0 + nodes y) gave.0 b.total in
+    let total : count ≡ count0 + nodes x = b.total ∙ ap (λ y. count0 + nodes y) gave.0 in
     record {
       words = words;
       rest = left;
       whole = refl;
       spelled = subst (P (map (lexeme_of i.text) words)) gave.0 b.spelled;
       few = (let f = b.few in omega arith);
-      end = arrived i left j (here i left at count) at (at0 + length words) count (count0 + nodes x) gave.1 refl place total;
+      end = sym gave.1 ∙ ap₂ (here i left) place total;
     }
 
 module _ (i : Input) (L R Q : Phrase) (operator : Option Piece → Option Op) (operand : Parser Expr) (more : Expr → Parser Expr)
@@ -108,7 +103,7 @@ module _ (i : Input) (L R Q : Phrase) (operator : Option Piece → Option Op) (o
       let h' : and_then (operand (here i rest (at + 1) (count + 1))) (λ r. more (e.Bin op l r)) ≡ Ok (x, j) = rw (next_here i t rest at (count + 1)) at n.1 in
       let s = steps_of (operand (here i rest (at + 1) (count + 1))) (λ r. more (e.Bin op l r)) x j h' in
       let took = sound rest (at + 1) (count + 1) s.value s.between s.first in
-      let went = goes_on_at i (more (e.Bin op l s.value)) x j s.between took.rest (at + 1 + length took.words) (count + 1 + nodes s.value) took.end s.second in
+      let went = subst (λ (k : Input). more (e.Bin op l s.value) k ≡ Ok (x, j)) took.end s.second in
       let size = nodes-Bin op l s.value in
       let place = b.place in
       let total = b.total in
@@ -121,8 +116,8 @@ module _ (i : Input) (L R Q : Phrase) (operator : Option Piece → Option Op) (o
         total = omega arith;
         few = few;
       }) went in
-      let same = rejoined words took.words rest took.rest t took.whole in
-      along i Q ((words ++ t ∷ took.words) ++ took.rest) (words ++ t ∷ rest) at0 count0 x j same all
+      let same : (words ++ t ∷ took.words) ++ took.rest ≡ words ++ t ∷ rest = append_assoc words (t ∷ took.words) took.rest ∙ ap (λ ls. words ++ t ∷ ls) (sym took.whole) in
+      subst (λ (ls : List Token). Took i Q ls at0 count0 x j) same all
 
   by_operator : (at0 count0 : ℕ) (words : List Token) (t : Token) (rest : List Token) (at count : ℕ) (l x : Expr) (j : Input) (o : Option Op)
       → Before i L at0 count0 words at count l → operator (Some (lexeme_of i.text t).piece) ≡ o
@@ -154,10 +149,10 @@ pub followed : (i : Input) (P Q : Phrase) (p : Parser Expr) (f : Expr → Parser
 followed i P Q p f sound goes_on left at count x j h =
     let s = steps_of (p (here i left at count)) f x j h in
     let took = sound left at count s.value s.between s.first in
-    let went = goes_on_at i (f s.value) x j s.between took.rest (at + length took.words) (count + nodes s.value) took.end s.second in
+    let went = subst (λ (k : Input). f s.value k ≡ Ok (x, j)) took.end s.second in
     let all = goes_on at count took.words took.rest (at + length took.words) (count + nodes s.value) s.value x j
     (record { spelled = took.spelled; place = refl; total = refl; few = took.few }) went in
-    along i Q (took.words ++ took.rest) left at count x j (sym took.whole) all
+    subst (λ (ls : List Token). Took i Q ls at count x j) (sym took.whole) all
 
 -- an operand, and then any number of operators with their right sides
 pub chained : (i : Input) (P Q : Phrase) (operator : Option Piece → Option Op) (operand : Parser Expr)

@@ -2,18 +2,10 @@
 #![tactic(auto)]
 
 #[cfg(test)]
-mod by_hand;
-#[cfg(test)]
-mod calls;
-#[cfg(test)]
 mod faults;
 #[cfg(test)]
 mod inputs;
 #[cfg(test)]
-mod printed;
-#[cfg(test)]
 mod rows;
 #[cfg(test)]
 mod run;
-#[cfg(test)]
-mod types;

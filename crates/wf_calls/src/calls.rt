@@ -1,8 +1,8 @@
 //! The calls below the top call, each over a chart that is read and checked.
-ghost use Rattle.std.specs.Prelude.{IfOk, IsTrue};
+ghost use Rattle.std.specs.Prelude.{◌≤◌, length, IfOk, IsTrue};
+ghost use Rattle.wf_model.specs.declared.limits.TheConstants.{MAX_INPUT};
 ghost use Rattle.wf_model.specs.Plain.{is_plain};
 
-use crate::inputs::SIDES;
 use std::alloc::Global;
 use std::test::Fail;
 use wf_audit::{CentralLine, ScriptFault, read_central};
@@ -12,11 +12,21 @@ use wf_model::{Checked, Entry, EventId, Kind, List, Outer, OuterFault, StateId, 
 use wf_scopes::{Scopes, kind_of, parent_at};
 use wf_text::read_chart;
 
+/// Two sides, and a transition from one into the other.
+const SIDES: &str = "chart reg; unit a; event e at a; event f at a;
+or R at a { and A at a {
+  or B at a { basic B1 at a; basic B2 at a; }
+  or C at a { basic C1 at a; basic C2 at a; } } }
+from B1 to B2 on e;
+from B2 to C2 on f;
+";
+
 /// The plain chart of a text.
-fn checked(alloc: Global, text: &str) -> Result<Checked, Fail>
+fn checked(alloc: Global, text: &[u8]) -> Result<Checked, Fail>
+    requires { length text.now ≤ MAX_INPUT }
     ensures { IfOk result (λ chart. IsTrue (is_plain chart)) }
 {
-    let checked = check(alloc, read_chart(alloc, text.as_bytes())?)?;
+    let checked = check(alloc, read_chart(alloc, text)?)?;
     if is_plain(checked.chart()) {
         Ok(checked)
     } else {
@@ -27,7 +37,7 @@ fn checked(alloc: Global, text: &str) -> Result<Checked, Fail>
 #[test]
 fn tables(rt: HostRuntime) -> Result<(), Fail> {
     let alloc = rt.alloc();
-    let checked = checked(alloc, SIDES)?;
+    let checked = checked(alloc, SIDES.as_bytes())?;
     assert_eq!(rt; kind_of(checked.chart(), StateId(1)), Kind::And);
     assert_eq!(rt; parent_at(checked.chart(), StateId(7)), Some(StateId(5)));
     let scopes = Scopes::of(alloc, &checked)?;
@@ -47,7 +57,7 @@ fn tables(rt: HostRuntime) -> Result<(), Fail> {
 #[test]
 fn steps(rt: HostRuntime) -> Result<(), Fail> {
     let alloc = rt.alloc();
-    let checked = checked(alloc, SIDES)?;
+    let checked = checked(alloc, SIDES.as_bytes())?;
     let mut state = CentralState::first(alloc, &checked)?;
     assert!(rt; state.is_in(StateId(3)));
     assert_eq!(rt; state.taken(), 0);
@@ -70,7 +80,7 @@ fn steps(rt: HostRuntime) -> Result<(), Fail> {
 #[test]
 fn scripts(rt: HostRuntime) -> Result<(), Fail> {
     let alloc = rt.alloc();
-    let checked = checked(alloc, SIDES)?;
+    let checked = checked(alloc, SIDES.as_bytes())?;
     let script = b"outer a event f\r\n# nothing\n step\nshow # now";
     let lines = read_central(alloc, checked.chart(), script)?;
     assert_eq!(rt; lines.len(), 4);

@@ -1,5 +1,4 @@
 //! Copies and comparisons of the types that every crate speaks of, and the names of its statuses and words.
-use crate::printed::CANONICAL;
 use std::alloc::Global;
 use std::test::Fail;
 use wf_model::{
@@ -9,6 +8,12 @@ use wf_model::{
     Val, VarId, Write, is_name, is_reserved,
 };
 use wf_text::read_chart;
+
+/// A chart with all kinds of parts.
+const ALL: &str =
+    "chart m; unit a; event e at a; event i; var t : bool = false; var w : text = \"h\";
+activity job at a gives t; or R at a { and A at a { or B at a { basic B1 at a; } } basic D at a; }
+from B1 to D on e if not (in(B1) and count(job) < - 1) do t := done(job), raise i, start job;";
 
 /// Whether the copy of a value is the same.
 fn is_copied<T: Duplicate + Same>(alloc: Global, value: &T) -> Result<bool, NoMemory> {
@@ -125,7 +130,7 @@ fn part(alloc: Global) -> Result<Part, NoMemory> {
 #[test]
 fn charts(rt: HostRuntime) -> Result<(), Fail> {
     let alloc = rt.alloc();
-    let chart = read_chart(alloc, CANONICAL.as_bytes())?;
+    let chart = read_chart(alloc, ALL.as_bytes())?;
     assert!(rt; is_copied(alloc, &chart)?);
     let mut other = chart.copy(alloc)?;
     other.name = Name::new(alloc, b"other")?;

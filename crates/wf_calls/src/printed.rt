@@ -1,5 +1,6 @@
-//! The canonical texts of charts, each of which is read back as it is printed.
-use crate::inputs::SINGLE;
+//! The canonical texts of charts, each of which is read back as it is printed.ghost use Rattle.std.specs.Prelude.{◌≤◌, length};
+ghost use Rattle.wf_model.specs.declared.limits.TheConstants.{MAX_INPUT};
+
 use std::alloc::Global;
 use std::test::Fail;
 use wf_check::check;
@@ -8,13 +9,17 @@ use wf_print::print_chart;
 use wf_text::read_chart;
 
 /// The canonical text of the chart that the text means.
-fn printed(alloc: Global, text: &str) -> Result<Bytes, Fail> {
-    let checked = check(alloc, read_chart(alloc, text.as_bytes())?)?;
+fn printed(alloc: Global, text: &[u8]) -> Result<Bytes, Fail>
+    requires { length text.now ≤ MAX_INPUT }
+{
+    let checked = check(alloc, read_chart(alloc, text)?)?;
     Ok(print_chart(alloc, &checked)?)
 }
 
+const SINGLE: &str = "chart m; unit a; or R at a { basic S at a; }";
+
 /// A chart with all kinds of parts, as it is printed.
-pub const CANONICAL: &str = "chart m;
+const CANONICAL: &str = "chart m;
 unit a;
 unit b;
 event e at a;
@@ -41,10 +46,10 @@ from A to D on fault if ((n >= 7) = (w != \"x\"));
 
 #[test]
 fn canonical(rt: HostRuntime) -> Result<(), Fail> {
-    let single = printed(rt.alloc(), SINGLE)?;
+    let single = printed(rt.alloc(), SINGLE.as_bytes())?;
     let five = "chart m;\nunit a;\nor R at a {\n  basic S at a;\n}\n";
     assert_eq!(rt; single.as_slice(), five.as_bytes());
-    let again = printed(rt.alloc(), CANONICAL)?;
+    let again = printed(rt.alloc(), CANONICAL.as_bytes())?;
     assert_eq!(rt; again.as_slice(), CANONICAL.as_bytes());
     Ok(())
 }

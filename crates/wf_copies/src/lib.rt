@@ -1,0 +1,5 @@
+//! Copies and comparisons of the types that every crate speaks of.
+#![tactic(auto)]
+
+#[cfg(test)]
+mod types;

@@ -1,5 +1,5 @@
 //! The items of one unit.
-ghost use Rattle.std.specs.Prelude.{◌≡◌, ℕ, ◌+◌, ◌++◌, ◌<◌, ◌^◌, [], length, map, replicate, Ok, IsTrue, OnOk, OnErr, IfOk};
+ghost use Rattle.std.specs.Prelude.{◌≡◌, ◌+◌, ◌++◌, ◌<◌, ◌^◌, [], length, map, IsTrue, OnOk, OnErr};
 ghost use Rattle.std.specs.Option.{option_map};
 ghost use Rattle.wf_semantics.specs.Items.{new_item, item_at, open_count, close};
 ghost use Rattle.wf_activities.specs.UnitItems.{listed, is_open, started_of};

@@ -1,5 +1,5 @@
 //! Whether the values of a completion are those that its activity gives.
-ghost use Rattle.std.specs.Prelude.{◌≡◌, ◌==◌, ◌&&◌};
+ghost use Rattle.std.specs.Prelude.{◌≡◌};
 ghost use Rattle.wf_model.specs.Seen.{val_sort};
 ghost use Rattle.wf_model.specs.Sorts.{alike};
 ghost use Rattle.wf_activities.specs.Completing.{is_wanted, are_wanted};

@@ -1,4 +1,5 @@
-//! The canonical texts of charts, each of which is read back as it is printed.ghost use Rattle.std.specs.Prelude.{◌≤◌, length};
+//! The canonical texts of charts, each of which is read back as it is printed.
+ghost use Rattle.std.specs.Prelude.{◌≤◌, length};
 ghost use Rattle.wf_model.specs.declared.limits.TheConstants.{MAX_INPUT};
 
 use std::alloc::Global;

@@ -8,3 +8,4 @@ pub mod Declaring
 pub mod Declarations
 pub mod Loops
 pub mod States
+pub mod Whole

@@ -139,7 +139,7 @@ module _ (chart : Chart) where
   abbrev from_vars : Names
   from_vars = declared_from (λ x. x.name) var_of 0 chart.vars
 
-  abbrev from_acts : Names
+  abbrev pub from_acts : Names
   from_acts = declared_from (λ x. x.name) act_of 0 chart.acts
 
   abbrev from_states : Names

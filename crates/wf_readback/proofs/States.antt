@@ -53,23 +53,23 @@ use Rattle.wf_readback.proofs.Declarations.{IsNewName, HasUnits, naming, at_is, 
 
 -- ---- pieces
 
-abbrev kind_bytes : Kind → List ℕ
+abbrev pub kind_bytes : Kind → List ℕ
 kind_bytes kinds.Basic = codes "basic"
 kind_bytes kinds.Or = codes "or"
 kind_bytes kinds.And = codes "and"
 
-abbrev kind_piece : Kind → Piece
+abbrev pub kind_piece : Kind → Piece
 kind_piece kinds.Basic = pieces.Basic
 kind_piece kinds.Or = pieces.Or
 kind_piece kinds.And = pieces.And
 
-kind_is : (k : Kind) → Is (kind_piece k) (word_lexeme (kind_bytes k))
+pub kind_is : (k : Kind) → Is (kind_piece k) (word_lexeme (kind_bytes k))
 unfolding piece_of word_piece state_word
 kind_is kinds.Basic = refl
 kind_is kinds.Or = refl
 kind_is kinds.And = refl
 
-kind_found : (k : Kind) → text.kind_of (Some (kind_piece k)) ≡ Some k
+pub kind_found : (k : Kind) → text.kind_of (Some (kind_piece k)) ≡ Some k
 kind_found kinds.Basic = refl
 kind_found kinds.Or = refl
 kind_found kinds.And = refl
@@ -100,7 +100,7 @@ taken [] k x is = cc
 taken (y ∷ xs) zero x is = refl
 taken (y ∷ xs) (suc k) x is = omega (arith, taken xs k x is)
 
-all_at : {A : Type 0} (p : A → Bool) (xs : List A) (k : ℕ) (x : A) → list_all p xs ≡ true → slice_get xs k ≡ Some x → p x ≡ true
+pub all_at : {A : Type 0} (p : A → Bool) (xs : List A) (k : ℕ) (x : A) → list_all p xs ≡ true → slice_get xs k ≡ Some x → p x ≡ true
 all_at p [] k x h is = cc
 all_at p (y ∷ xs) zero x h is = let same : y ≡ x = cc in ap p (sym same) ∙ (and_both (p y) (list_all p xs) h).0
 all_at p (y ∷ xs) (suc k) x h is = all_at p xs k x (and_both (p y) (list_all p xs) h).1 is
@@ -245,7 +245,7 @@ module _ (chart : Chart) (accepted : IsAccepted chart) (new : AreNewIn (λ (y : 
   unfolding state_spans
   spans_are levels d s state is = rw is refl
 
-  line_is : (levels d s : ℕ) (state : State) (ws : List Lexeme) → slice_get chart.states s ≡ Some state
+  pub line_is : (levels d s : ℕ) (state : State) (ws : List Lexeme) → slice_get chart.states s ≡ Some state
       → lexemes_of (state_spans chart (suc levels) d s) ++ ws
       ≡ word_lexeme (kind_bytes state.kind) ∷ word_lexeme state.name ∷ word_lexeme (codes "at") ∷ word_lexeme (unit_name chart state.unit)
       ∷ (lexemes_of (spans.body d (length (children chart s) == 0) (inner_spans levels (d + 1) (children chart s))) ++ ws)

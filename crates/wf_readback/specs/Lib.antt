@@ -1,3 +1,3 @@
 pub mod Declares
-pub mod Laws
 pub mod Order
+pub mod Laws

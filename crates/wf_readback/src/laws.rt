@@ -1,5 +1,5 @@
 //! Laws of the reader on canonical texts.
-ghost use Rattle.wf_readback.specs.Laws.{DeclarationsAreRead, NamesAreDeclared, TransitionsAreRead};
+ghost use Rattle.wf_readback.specs.Laws.{DeclarationsAreRead, NamesAreDeclared, OrderedIsReadBack, TransitionsAreRead};
 
 /// Where the tokens of an accepted chart's transitions are left and its names are declared as what they are, the reader answers
 /// these transitions. Then no token is left, and what was declared is as before.
@@ -16,4 +16,10 @@ pub fn names_are_declared()
 /// has declared then is what the chart has, but the states.
 pub fn declarations_are_read()
     ensures { DeclarationsAreRead }
+{}
+
+/// The canonical text of an accepted chart means that chart, where its states are numbered as they stand in the text, and where it
+/// hasn't too many tokens.
+pub fn ordered_is_read_back()
+    ensures { OrderedIsReadBack }
 {}

@@ -3,4 +3,6 @@
 
 mod laws;
 
-pub use laws::{declarations_are_read, names_are_declared, transitions_are_read};
+pub use laws::{
+    declarations_are_read, names_are_declared, ordered_is_read_back, transitions_are_read,
+};

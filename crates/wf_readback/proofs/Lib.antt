@@ -8,4 +8,5 @@ pub mod Declaring
 pub mod Declarations
 pub mod Loops
 pub mod States
+pub mod Ordered
 pub mod Whole

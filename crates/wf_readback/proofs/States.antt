@@ -140,14 +140,14 @@ run_parts k (x ∷ xs) ys h =
 
 -- ---- depths
 
-get_within : (xs : List State) (s : ℕ) (state : State) → slice_get xs s ≡ Some state → s < length xs
+pub get_within : (xs : List State) (s : ℕ) (state : State) → slice_get xs s ≡ Some state → s < length xs
 get_within xs s state is = elim (lt_or_ge s (length xs)) [
   | inl within ↦ within
   | inr past ↦ let none = slice_get_past xs s past in cc
 ]
 
 -- a child lies one level deeper
-depth_child : (chart : Chart) → IsChart chart → (k s : ℕ) → parent chart k ≡ Some s → depth chart k ≡ depth chart s + 1
+pub depth_child : (chart : Chart) → IsChart chart → (k s : ℕ) → parent chart k ≡ Some s → depth chart k ≡ depth chart s + 1
 unfolding ancestors_by
 depth_child chart ok zero s up = absurd (omega (arith, falls chart ok 0 s up))
 depth_child chart ok (suc k) s up =
@@ -236,7 +236,7 @@ module _ (chart : Chart) (accepted : IsAccepted chart) (new : AreNewIn (λ (y : 
   abbrev inner_spans : ℕ → ℕ → List ℕ → List Span
   inner_spans levels d ss = flat_map (state_spans chart levels d) ss
 
-  order_is : (levels s : ℕ) → states_from chart (suc levels) s ≡ s ∷ inner_order levels (children chart s)
+  pub order_is : (levels s : ℕ) → states_from chart (suc levels) s ≡ s ∷ inner_order levels (children chart s)
   unfolding states_from
   order_is levels s = refl
 

@@ -42,7 +42,7 @@ use Rattle.wf_canon.proofs.Known.{is_named_of}
 use Rattle.wf_canon.proofs.ChartFits.{chart_is_cut}
 use Rattle.wf_readback.specs.Declares.{declared_from, state_of, names_before_states, all_names}
 use Rattle.wf_readback.specs.Order.{states_from, IsInOrder}
-use Rattle.wf_readback.specs.Laws.{declaration_lines, OrderedIsReadBack}
+use Rattle.wf_readback.specs.Laws.{declaration_lines, ChartIsReadBack}
 use Rattle.wf_readback.proofs.New.{found_before}
 use Rattle.wf_readback.proofs.Steps.{Made, made_of, At, Answers, one_token, name_here, expect_step, piece_at, left_at}
 use Rattle.wf_readback.proofs.Pieces.{word_lexeme, sign_lexeme, semicolon_is}
@@ -52,6 +52,7 @@ use Rattle.wf_readback.proofs.Loops.{start, with_acts, Read, read_all, fault_is,
 use Rattle.wf_readback.proofs.States.{kind_bytes, kind_piece, kind_is, kind_found, up_to, line_is, state_step}
 use Rattle.wf_readback.proofs.Transitions.{regrouped, two_parts, transitions_step}
 use Rattle.wf_readback.proofs.Fit.{all_fit}
+use Rattle.wf_readback.proofs.Ordered.{states_are_in_order}
 
 chart_is : Is pieces.Chart (word_lexeme (codes "chart"))
 unfolding piece_of word_piece
@@ -202,9 +203,10 @@ start_left : (text : List ℕ) (tokens : List Token) → lexemes (start_of text 
 unfolding start_of
 start_left text tokens = refl
 
-pub ordered_is_read_back : OrderedIsReadBack
+pub chart_is_read_back : ChartIsReadBack
 unfolding text.chart_of
-ordered_is_read_back chart accepted short order few =
+chart_is_read_back chart accepted short few =
+    let order = states_are_in_order chart accepted in
     let cut = chart_is_cut chart accepted short few in
     let begins = start_of (chart_text chart) cut.0 in
     let p = contents_step chart accepted short order begins (made_of begins) (record { left = start_left (chart_text chart) cut.0 ∙ cut.2; made = refl })

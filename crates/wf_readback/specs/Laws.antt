@@ -47,9 +47,13 @@ DeclarationsAreRead =
     (j : Input) × (declarations i ≡ Ok (tt, j)) × (lexemes j ≡ more)
     × (j ≡ record i { left = j.left; at = j.at; units = chart.units; events = chart.events; vars = chart.vars; acts = chart.acts; names = names_before_states chart; nodes = j.nodes })
 
--- The canonical text of an accepted chart means that chart, where its states are numbered as they stand in the text, and where it has
--- at most MAX_TOKENS tokens.
-abbrev pub OrderedIsReadBack : Type 0
-OrderedIsReadBack =
-    (chart : Chart) → IsAccepted chart → IsTrue (is_short chart) → IsInOrder chart → length (lexemes_of (chart_spans chart)) ≤ MAX_TOKENS →
+-- the states of an accepted chart are numbered as they stand in its canonical text
+abbrev pub StatesAreInOrder : Type 0
+StatesAreInOrder = (chart : Chart) → IsAccepted chart → IsInOrder chart
+
+-- The canonical text of an accepted chart means that chart, where it has at most MAX_TOKENS tokens: the text of a large chart may
+-- have more.
+abbrev pub ChartIsReadBack : Type 0
+ChartIsReadBack =
+    (chart : Chart) → IsAccepted chart → IsTrue (is_short chart) → length (lexemes_of (chart_spans chart)) ≤ MAX_TOKENS →
     Means (chart_text chart) chart

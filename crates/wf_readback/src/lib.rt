@@ -4,5 +4,6 @@
 mod laws;
 
 pub use laws::{
-    declarations_are_read, names_are_declared, ordered_is_read_back, transitions_are_read,
+    chart_is_read_back, declarations_are_read, names_are_declared, states_are_in_order,
+    transitions_are_read,
 };

@@ -1,8 +1,7 @@
 -- All declarations, one kind after the other.
-use Rattle.std.proofs.Common.{◌≡◌, ℕ, zero, suc, ◌+◌, ◌-◌, ◌<◌, ◌≤◌, ◌&&◌, Bool, true, false, nat_lt, List, [], ◌∷◌, ◌++◌, length, drop, flat_map, Option, Some, None, Ok, refl, sym, ◌∙◌, ap, ap₂, subst, arith, append-nil, append_assoc, length-append}
+use Rattle.std.proofs.Common.{◌≡◌, ℕ, zero, suc, ◌+◌, ◌-◌, ◌≤◌, true, nat_lt, List, [], ◌∷◌, ◌++◌, length, flat_map, Option, Some, None, Ok, refl, sym, ◌∙◌, ap, ap₂, subst, arith, append-nil, append_assoc, length-append}
 use Rattle.std.specs.List.{list_all}
 use lib.Chars.{codes}
-use Rattle.wf_model.specs.declared.limits.TheConstants.{MAX_NAME}
 use Rattle.wf_model.specs.declared.ids.UnitId.{UnitId}
 use Rattle.wf_model.specs.declared.ids.VarId.{VarId}
 use Rattle.wf_model.specs.declared.chart.Event.{Event}
@@ -14,19 +13,17 @@ use Rattle.wf_model.specs.Accepted.{IsAccepted, is_named, is_unit, all_of, is_kn
 use Rattle.wf_semantics.proofs.Bools.{and_both}
 use Rattle.wf_cursor.specs.declared.names.Declared.{Declared}
 use Rattle.wf_cursor.specs.declared.names.Declared.TheVariants as declared_as_a
-use Rattle.wf_cursor.specs.declared.piece.Piece.{Piece}
 use Rattle.wf_cursor.specs.declared.piece.Piece.TheVariants as pieces
-use Rattle.wf_cursor.specs.Names.{declared_as}
 use Rattle.wf_cursor.specs.Input.{Input}
 use Rattle.wf_words.specs.Names.{unit_name, var_name}
 use Rattle.wf_text.specs.Declarations as decl
-use Rattle.wf_grammar.specs.Lexemes.{Lexeme, lexemes}
+use Rattle.wf_grammar.specs.Lexemes.{Lexeme}
 use Rattle.wf_grammar.specs.Phrases.{Names}
 use Rattle.wf_grammar.specs.Laws.{first_piece}
 use Rattle.wf_canon.specs.Spans.{Span, lexemes_of}
 use Rattle.wf_canon.specs.Charts as spans
 use Rattle.wf_canon.specs.Charts.{is_short_value, is_short_transition, is_short}
-use Rattle.wf_canon.proofs.Named.{HasNames, has_names, name_piece, name_is_short, below}
+use Rattle.wf_canon.proofs.Named.{has_names, name_piece, name_is_short, below}
 use Rattle.wf_canon.proofs.Known.{is_named_of, known, all_behind}
 use Rattle.wf_canon.proofs.Spelled.{lexemes-append}
 use Rattle.wf_readback.specs.Declares.{declared_from, unit_of, event_of, var_of, act_of, fault_alone, names_before_states}

@@ -1,11 +1,10 @@
 -- The states of an accepted chart are numbered as they stand in its text.
-use Rattle.std.proofs.Common.{◌≡◌, ℕ, zero, suc, ◌+◌, ◌-◌, ◌<◌, ◌≤◌, ◌==◌, ◌||◌, ◌⊎◌, cond, Bool, true, false, List, [], ◌∷◌, ◌++◌, length, flat_map, filter, Option, Some, None, refl, sym, ◌∙◌, ap, ap₂, subst, arith, inl, inr, length-append}
+use Rattle.std.proofs.Common.{◌≡◌, ℕ, zero, suc, ◌+◌, ◌-◌, ◌<◌, ◌≤◌, ◌==◌, ◌⊎◌, cond, Bool, true, false, List, [], ◌∷◌, ◌++◌, length, flat_map, filter, Option, Some, refl, sym, ◌∙◌, ap, ap₂, subst, arith, inl, inr, length-append}
 use Rattle.std.specs.List.{range_with_len}
 use Rattle.std.proofs.lemmas.Bool.{cases_Bool, eqb-true, eq-eqb}
 use Rattle.wf_model.specs.declared.limits.TheConstants.{MAX_DEPTH}
 use Rattle.wf_model.specs.declared.chart.Chart.{Chart}
-use Rattle.wf_model.specs.Tree.{parent, children, all_states, is_child_of, is_above, ancestors_by}
-use Rattle.wf_model.specs.Accepted.{IsAccepted}
+use Rattle.wf_model.specs.Tree.{parent, children, is_child_of, is_above, ancestors_by}
 use Rattle.wf_semantics.proofs.Bools.{or_cases, or_left, or_right}
 use Rattle.wf_semantics.proofs.Children.{child_of, of_child, lt_or_ge}
 use Rattle.wf_semantics.proofs.Facts.{IsChart, chart_of}

@@ -1,19 +1,18 @@
 -- The states of a chart are read back, where they are numbered as they stand in the text.
-use Rattle.std.proofs.Common.{◌≡◌, ℕ, zero, suc, ◌+◌, ◌-◌, ◌<◌, ◌≤◌, ◌&&◌, ◌==◌, Bool, true, false, nat_lt, List, [], ◌∷◌, ◌++◌, length, take, drop, flat_map, slice_get, Option, Some, None, Ok, refl, sym, ◌∙◌, ap, ap₂, subst, arith, inl, inr, append-nil, append_assoc, length-append}
+use Rattle.std.proofs.Common.{◌≡◌, ℕ, zero, suc, ◌+◌, ◌<◌, ◌≤◌, ◌==◌, Bool, true, false, List, [], ◌∷◌, ◌++◌, length, take, flat_map, slice_get, Option, Some, None, Ok, refl, sym, ◌∙◌, ap, ap₂, subst, arith, inl, inr, append-nil, append_assoc, length-append}
 use Rattle.std.specs.List.{list_all}
 use Rattle.std.specs.Option.{option_map, option_and_then}
 use Rattle.std.proofs.lemmas.Bool.Decides.{nat_tests}
 use lib.Chars.{codes}
-use Rattle.wf_model.specs.declared.limits.TheConstants.{MAX_NAME, MAX_DEPTH, MAX_OPEN}
-use Rattle.wf_model.specs.declared.ids.UnitId.{UnitId}
+use Rattle.wf_model.specs.declared.limits.TheConstants.{MAX_DEPTH}
 use Rattle.wf_model.specs.declared.ids.StateId.{StateId}
 use Rattle.wf_model.specs.declared.chart.Kind.{Kind}
 use Rattle.wf_model.specs.declared.chart.Kind.TheVariants as kinds
 use Rattle.wf_model.specs.declared.chart.State.{State}
 use Rattle.wf_model.specs.declared.chart.Chart.{Chart}
 use Rattle.wf_model.specs.Names.{is_name}
-use Rattle.wf_model.specs.Tree.{children, parent, parent_of, list_from}
-use Rattle.wf_model.specs.Accepted.{IsAccepted, is_named, is_unit}
+use Rattle.wf_model.specs.Tree.{children, parent, parent_of}
+use Rattle.wf_model.specs.Accepted.{IsAccepted, is_unit}
 use Rattle.wf_semantics.proofs.Bools.{and_both, Mem}
 use Rattle.wf_semantics.proofs.Children.{mem_child_parent, parent_inside, item_at, lt_or_ge}
 use Rattle.wf_semantics.proofs.Facts.{IsChart, chart_of}
@@ -24,7 +23,6 @@ use Rattle.wf_cursor.specs.Pieces.{piece_of, same_piece, word_piece, state_word,
 use Rattle.wf_cursor.specs.Names.{declared_as}
 use Rattle.wf_cursor.specs.Input.{Input, Parser, is_piece, next, next_state, with_state}
 use Rattle.wf_words.specs.Names.{unit_name}
-use Rattle.wf_print.specs.Words.{kind_word}
 use Rattle.wf_print.specs.States.{indent}
 use Rattle.wf_print.specs.Nested.{depth}
 use Rattle.std.proofs.lemmas.Option.{slice_get_past}
@@ -36,10 +34,9 @@ use Rattle.wf_grammar.specs.Lexemes.{Lexeme}
 use Rattle.wf_grammar.specs.Phrases.{Is}
 use Rattle.wf_grammar.specs.Laws.{first_piece}
 use Rattle.wf_canon.specs.Spans.{Span, lexemes_of}
-use Rattle.wf_canon.specs.Expressions.{sign, blank}
 use Rattle.wf_canon.specs.Charts as spans
 use Rattle.wf_canon.specs.Charts.{one, between, line_end, kind_spans, state_spans}
-use Rattle.wf_canon.proofs.Named.{HasNames, has_names, name_piece, name_is_short}
+use Rattle.wf_canon.proofs.Named.{has_names, name_piece, name_is_short}
 use Rattle.wf_canon.proofs.Known.{is_named_of, known}
 use Rattle.wf_canon.proofs.Spelled.{lexemes-append}
 use Rattle.wf_readback.specs.Declares.{declared_from, state_of, names_before_states}

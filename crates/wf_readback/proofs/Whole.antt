@@ -1,25 +1,21 @@
 -- The canonical text of a chart is read back.
-use Rattle.std.proofs.Common.{◌≡◌, ℕ, zero, suc, ◌+◌, ◌-◌, ◌<◌, ◌≤◌, nat_lt, true, false, List, [], ◌∷◌, ◌++◌, length, take, drop, flat_map, slice_get, map, Option, Some, None, Result, Ok, Err, refl, sym, ◌∙◌, ap, ap₂, subst, arith, append-nil, append_assoc}
-use Rattle.std.specs.Option.{option_map, option_and_then}
+use Rattle.std.proofs.Common.{◌≡◌, ℕ, ◌+◌, ◌-◌, ◌≤◌, true, List, [], ◌∷◌, ◌++◌, length, take, drop, flat_map, slice_get, map, Option, Some, None, Ok, refl, sym, ◌∙◌, ap, ap₂, subst, arith, append-nil, append_assoc}
+use Rattle.std.specs.Option.{option_map}
 use Rattle.std.proofs.lemmas.List.{take_all}
 use lib.Chars.{codes}
 use Rattle.wf_model.specs.declared.limits.TheConstants.{MAX_NAME, MAX_DEPTH, MAX_OPEN}
-use Rattle.wf_model.specs.declared.ids.UnitId.{UnitId}
 use Rattle.wf_model.specs.declared.ids.StateId.{StateId}
 use Rattle.wf_model.specs.declared.chart.Kind.{Kind}
 use Rattle.wf_model.specs.declared.chart.Kind.TheVariants as kinds
 use Rattle.wf_model.specs.declared.chart.Event.{Event}
 use Rattle.wf_model.specs.declared.chart.State.{State}
-use Rattle.wf_model.specs.declared.chart.Transition.{Transition}
 use Rattle.wf_model.specs.declared.chart.Chart.{Chart}
 use Rattle.wf_model.specs.Names.{is_name}
-use Rattle.wf_model.specs.Tree.{kind, parent, parent_of, children, ancestors_by}
-use Rattle.wf_model.specs.Accepted.{IsAccepted, is_named}
+use Rattle.wf_model.specs.Tree.{ancestors_by}
+use Rattle.wf_model.specs.Accepted.{IsAccepted}
 use Rattle.wf_semantics.proofs.Children.{item_at}
-use Rattle.wf_semantics.proofs.Facts.{IsChart, chart_of}
+use Rattle.wf_semantics.proofs.Facts.{chart_of}
 use Rattle.wf_lex.specs.declared.token.Token.{Token}
-use Rattle.wf_lex.specs.Lex.{tokens_of}
-use Rattle.wf_cursor.specs.declared.piece.Piece.{Piece}
 use Rattle.wf_cursor.specs.declared.piece.Piece.TheVariants as pieces
 use Rattle.wf_cursor.specs.declared.names.Declared.TheVariants as declared_as_a
 use Rattle.wf_cursor.specs.Pieces.{piece_of, word_piece}
@@ -46,10 +42,10 @@ use Rattle.wf_readback.specs.Laws.{declaration_lines, ChartIsReadBack}
 use Rattle.wf_readback.proofs.New.{found_before}
 use Rattle.wf_readback.proofs.Steps.{Made, made_of, At, Answers, one_token, name_here, expect_step, piece_at, left_at}
 use Rattle.wf_readback.proofs.Pieces.{word_lexeme, sign_lexeme, semicolon_is}
-use Rattle.wf_readback.proofs.Named.{has_fault, orders, events_behind, after_vars, from_acts, names_are_declared}
+use Rattle.wf_readback.proofs.Named.{has_fault, orders, after_vars, from_acts, names_are_declared}
 use Rattle.wf_readback.proofs.Declarations.{HasUnits}
-use Rattle.wf_readback.proofs.Loops.{start, with_acts, Read, read_all, fault_is, remade, units_still}
-use Rattle.wf_readback.proofs.States.{kind_bytes, kind_piece, kind_is, kind_found, up_to, line_is, state_step}
+use Rattle.wf_readback.proofs.Loops.{start, with_acts, read_all, fault_is, remade, units_still}
+use Rattle.wf_readback.proofs.States.{kind_bytes, kind_is, up_to, line_is, state_step}
 use Rattle.wf_readback.proofs.Transitions.{regrouped, two_parts, transitions_step}
 use Rattle.wf_readback.proofs.Fit.{all_fit}
 use Rattle.wf_readback.proofs.Ordered.{states_are_in_order}

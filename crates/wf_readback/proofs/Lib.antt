@@ -9,4 +9,5 @@ pub mod Declarations
 pub mod Loops
 pub mod States
 pub mod Ordered
+pub mod Short
 pub mod Whole

@@ -49,6 +49,7 @@ use Rattle.wf_readback.proofs.States.{kind_bytes, kind_is, up_to, line_is, state
 use Rattle.wf_readback.proofs.Transitions.{regrouped, two_parts, transitions_step}
 use Rattle.wf_readback.proofs.Fit.{all_fit}
 use Rattle.wf_readback.proofs.Ordered.{states_are_in_order}
+use Rattle.wf_readback.proofs.Short.{short_of}
 
 chart_is : Is pieces.Chart (word_lexeme (codes "chart"))
 unfolding piece_of word_piece
@@ -201,7 +202,8 @@ start_left text tokens = refl
 
 pub chart_is_read_back : ChartIsReadBack
 unfolding text.chart_of
-chart_is_read_back chart accepted short few =
+chart_is_read_back chart accepted held few =
+    let short = short_of chart accepted held in
     let order = states_are_in_order chart accepted in
     let cut = chart_is_cut chart accepted short few in
     let begins = start_of (chart_text chart) cut.0 in

@@ -15,6 +15,7 @@ use Rattle.wf_text.specs.Transitions.{transitions}
 use Rattle.wf_canon.specs.Spans.{Span, lexemes_of}
 use Rattle.wf_canon.specs.Charts.{unit_line, event_line, var_line, activity_line, transition_line, chart_spans, is_short}
 use Rattle.wf_readback.specs.Order.{IsInOrder}
+use Rattle.wf_readback.specs.Held.{is_held}
 use Rattle.wf_readback.specs.Declares.{Declares, fault_alone, names_before_states, all_names}
 
 -- Where the tokens of an accepted chart's transitions are left and its names are declared, the reader reads these transitions to the
@@ -51,9 +52,9 @@ DeclarationsAreRead =
 abbrev pub StatesAreInOrder : Type 0
 StatesAreInOrder = (chart : Chart) → IsAccepted chart → IsInOrder chart
 
--- The canonical text of an accepted chart means that chart, where it has at most MAX_TOKENS tokens: the text of a large chart may
--- have more.
+-- The canonical text of an accepted chart means that chart, where its literals are such as a program holds, and where it has at
+-- most MAX_TOKENS tokens: the text of a large chart may have more.
 abbrev pub ChartIsReadBack : Type 0
 ChartIsReadBack =
-    (chart : Chart) → IsAccepted chart → IsTrue (is_short chart) → length (lexemes_of (chart_spans chart)) ≤ MAX_TOKENS →
+    (chart : Chart) → IsAccepted chart → IsTrue (is_held chart) → length (lexemes_of (chart_spans chart)) ≤ MAX_TOKENS →
     Means (chart_text chart) chart

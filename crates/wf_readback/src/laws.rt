@@ -29,8 +29,8 @@ pub fn states_are_in_order()
     ensures { StatesAreInOrder }
 {}
 
-/// The canonical text of an accepted chart means that chart, if it hasn't too many tokens: the text of a large chart may have more
-/// than can be read.
+/// The canonical text of an accepted chart means that chart, where its literals are such as a program holds, and if it hasn't too
+/// many tokens: the text of a large chart may have more than can be read.
 pub fn chart_is_read_back()
     ensures { ChartIsReadBack }
 {}

@@ -1,5 +1,5 @@
 -- No token of an expression runs into the next one.
-use Rattle.std.proofs.Common.{◌≡◌, ℕ, zero, suc, ◌+◌, ◌<◌, ◌≤◌, ◌==◌, ◌&&◌, Bool, true, false, nat_le, List, [], ◌∷◌, ◌++◌, length, get_or, Some, refl, sym, ◌∙◌, ap, subst, arith, append-nil, append_assoc, length-append}
+use Rattle.std.proofs.Common.{◌≡◌, ℕ, ◌+◌, ◌<◌, ◌≤◌, Bool, true, false, nat_le, List, [], ◌∷◌, ◌++◌, length, get_or, Some, refl, sym, ◌∙◌, ap, subst, arith, append-nil, append_assoc, length-append}
 use Rattle.std.specs.List.{take_while, list_all}
 use Rattle.std.specs.Fmt.{decimal}
 use Rattle.std.proofs.lemmas.Bool.Decides.{nat_tests}
@@ -14,13 +14,12 @@ use Rattle.wf_model.specs.Accepted.{is_known_expr, is_named}
 use Rattle.wf_model.specs.Names.{is_letter, is_digit, is_word_char, are_word_chars, is_word, is_name}
 use Rattle.wf_model.specs.Txt.{is_text_char, is_text}
 use Rattle.wf_semantics.proofs.Bools.{and_both}
-use Rattle.wf_lex.specs.declared.token.TokenKind.{TokenKind}
 use Rattle.wf_lex.specs.declared.token.TokenKind.TheVariants as kinds
 use Rattle.wf_lex.specs.Lex.{with_kind, text_rest, token_at}
 use Rattle.wf_lex.specs.Slices.{IsToken}
 use Rattle.wf_cursor.specs.declared.value.TheConstants.{MAX_INT}
 use Rattle.wf_words.specs.Names.{var_name, state_name, act_name}
-use Rattle.wf_print.specs.Words.{truth_word, quoted}
+use Rattle.wf_print.specs.Words.{quoted}
 use Rattle.wf_canon.specs.Spans.{Span, written, goes_on, AreApart}
 use Rattle.wf_canon.specs.Expressions.{word, sign, blank, op_span, test_spans, expr_spans, has_short_literals}
 use Rattle.wf_canon.specs.Laws.{ExprIsApart}

@@ -1,15 +1,12 @@
 -- The spans of a chart are its canonical text, and none of its tokens runs into the next one.
-use Rattle.std.proofs.Common.{◌≡◌, ℕ, zero, suc, ◌+◌, ◌*◌, ◌^◌, ◌<◌, ◌==◌, ◌&&◌, Bool, true, false, nat_lt, nat_le, List, [], ◌∷◌, ◌++◌, length, get_or, flat_map, map, drop, replicate, Option, Some, None, pos, negsuc, refl, sym, ◌∙◌, ap, subst, arith, append-nil}
+use Rattle.std.proofs.Common.{◌≡◌, ℕ, zero, suc, ◌+◌, ◌*◌, ◌^◌, ◌<◌, ◌==◌, ◌&&◌, Bool, true, false, nat_lt, nat_le, List, [], ◌∷◌, ◌++◌, length, get_or, flat_map, map, drop, Option, Some, None, pos, negsuc, refl, sym, ◌∙◌, ap, arith, append-nil}
 use Rattle.std.specs.List.{list_all}
 use Rattle.std.specs.Fmt.{decimal}
-use Rattle.std.proofs.lemmas.Bool.Decides.{nat_tests}
 use lib.Chars.{codes}
 use Rattle.wf_model.specs.declared.limits.TheConstants.{MAX_DEPTH, MAX_TEXT}
 use Rattle.wf_model.specs.declared.ids.UnitId.{UnitId}
 use Rattle.wf_model.specs.declared.ids.EventId.{EventId}
 use Rattle.wf_model.specs.declared.ids.VarId.{VarId}
-use Rattle.wf_model.specs.declared.ids.ActId.{ActId}
-use Rattle.wf_model.specs.declared.ids.StateId.{StateId}
 use Rattle.wf_model.specs.declared.value.Sort.{Sort}
 use Rattle.wf_model.specs.declared.value.Sort.TheVariants as sorts
 use Rattle.wf_model.specs.declared.value.Val.{Val}
@@ -25,13 +22,11 @@ use Rattle.wf_model.specs.declared.chart.Action.{Action}
 use Rattle.wf_model.specs.declared.chart.Action.TheVariants as act
 use Rattle.wf_model.specs.declared.chart.Transition.{Transition}
 use Rattle.wf_model.specs.declared.chart.Chart.{Chart}
-use Rattle.wf_model.specs.Names.{is_word_char, is_word, is_name}
+use Rattle.wf_model.specs.Names.{is_word, is_name}
 use Rattle.wf_model.specs.Txt.{is_text}
-use Rattle.wf_model.specs.Values.{fits_i64}
-use Rattle.wf_model.specs.Tree.{children, list_from}
+use Rattle.wf_model.specs.Tree.{children}
 use Rattle.wf_model.specs.Accepted.{IsAccepted, is_named, all_of, is_unit, is_known_expr, is_known_action, is_known_activity, is_known_transition}
 use Rattle.wf_semantics.proofs.Bools.{and_both}
-use Rattle.wf_lex.specs.declared.token.Token.{Token}
 use Rattle.wf_lex.specs.declared.token.TokenKind.TheVariants as token
 use Rattle.wf_lex.specs.Lex.{token_at, tokens_of}
 use Rattle.wf_lex.specs.Slices.{IsToken}
@@ -46,7 +41,7 @@ use Rattle.wf_print.specs.Transitions as trans
 use Rattle.wf_print.specs.Transitions.{action_text, transition_line}
 use Rattle.wf_print.specs.ChartText.{chart_text}
 use Rattle.wf_grammar.specs.Lexemes.{lexeme_of}
-use Rattle.wf_canon.specs.Spans.{Span, written, lexemes_of, AreApart}
+use Rattle.wf_canon.specs.Spans.{Span}
 use Rattle.wf_canon.specs.Expressions.{sign, blank, expr_spans, has_short_literals}
 use Rattle.wf_canon.specs.Charts as spans
 use Rattle.wf_canon.specs.Charts.{one, first, between, parting, line_end, literal_spans, action_spans, kind_spans, state_spans, chart_spans, is_short_value, is_short_action, is_short_transition, is_short}

@@ -1,5 +1,5 @@
 -- A text of blanks and tokens is cut into these tokens.
-use Rattle.std.proofs.Common.{◌≡◌, ℕ, zero, suc, ◌+◌, ◌-◌, ◌<◌, ◌≤◌, ◌==◌, Bool, true, false, List, [], ◌∷◌, ◌++◌, length, take, drop, get_or, map, Option, Some, None, Result, Ok, Err, refl, sym, ◌∙◌, ap, ap₂, subst, arith, append-nil, append_assoc, length-append}
+use Rattle.std.proofs.Common.{◌≡◌, ℕ, ◌+◌, ◌-◌, ◌<◌, ◌≤◌, ◌==◌, true, false, List, [], ◌∷◌, ◌++◌, length, take, drop, map, Result, Ok, Err, refl, sym, ◌∙◌, ap, ap₂, arith, append-nil, append_assoc, length-append}
 use Rattle.std.specs.List.{list_all, slice_range}
 use Rattle.std.proofs.lemmas.List.{drop_at, take_at}
 use Rattle.std.proofs.lemmas.Bool.Decides.{nat_tests}
@@ -8,11 +8,11 @@ use Rattle.wf_semantics.proofs.Bools.{and_both}
 use Rattle.wf_lex.specs.declared.token.TokenKind.{TokenKind}
 use Rattle.wf_lex.specs.declared.token.Token.{Token}
 use Rattle.wf_lex.specs.declared.token.LexFault.{LexFault}
-use Rattle.wf_lex.specs.Lex.{lex, with_first, place, is_blank, token_at, tokens_of}
+use Rattle.wf_lex.specs.Lex.{lex, with_first, place, is_blank, tokens_of}
 use Rattle.wf_lex.specs.Slices.{IsToken}
 use Rattle.wf_lex.proofs.TokenSteps.{with_first-append, lex-token}
 use Rattle.wf_grammar.specs.Lexemes.{Lexeme, lexeme_of}
-use Rattle.wf_canon.specs.Spans.{Span, written, lexeme, lexemes_of, AreApart, goes_on}
+use Rattle.wf_canon.specs.Spans.{Span, written, lexeme, lexemes_of, AreApart}
 use Rattle.wf_canon.specs.Laws.{WrittenIsCut}
 use Rattle.wf_canon.proofs.Kept.{token_kept, no_blank, no_hash}
 

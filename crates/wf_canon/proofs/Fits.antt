@@ -1,5 +1,5 @@
 -- Spans that are written as a text, and stand apart in it.
-use Rattle.std.proofs.Common.{◌≡◌, ℕ, zero, suc, ◌+◌, ◌*◌, Bool, true, false, List, [], ◌∷◌, ◌++◌, length, get_or, flat_map, slice_get, replicate, refl, sym, ◌∙◌, ap, ap₂, subst, arith, append-nil, append_assoc}
+use Rattle.std.proofs.Common.{◌≡◌, ℕ, zero, suc, Bool, true, false, List, [], ◌∷◌, ◌++◌, get_or, flat_map, slice_get, replicate, refl, sym, ◌∙◌, ap, ap₂, subst, append-nil, append_assoc}
 use Rattle.std.specs.List.{list_all}
 use lib.Chars.{codes}
 use Rattle.wf_model.specs.Names.{is_word_char, is_word}

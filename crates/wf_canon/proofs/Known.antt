@@ -1,8 +1,6 @@
 -- What an accepted chart's parts name is there.
-use Rattle.std.proofs.Common.{◌≡◌, ℕ, ◌+◌, ◌&&◌, Bool, true, List, [], ◌∷◌, length, drop, refl, arith}
+use Rattle.std.proofs.Common.{◌≡◌, ℕ, ◌+◌, ◌&&◌, Bool, true, List, [], ◌∷◌, drop, refl, arith}
 use Rattle.std.specs.List.{list_all, enumerate_from}
-use Rattle.wf_model.specs.declared.chart.State.{State}
-use Rattle.wf_model.specs.declared.chart.Event.{Event}
 use Rattle.wf_model.specs.declared.chart.Chart.{Chart}
 use Rattle.wf_model.specs.Tree.{parent_of}
 use Rattle.wf_model.specs.Accepted.{IsAccepted, is_accepted, is_named, is_numbered, all_of, all_numbered, is_unit, follows, is_placed_event, is_placed_state, is_known_activity, is_known_transition}

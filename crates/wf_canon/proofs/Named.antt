@@ -1,5 +1,5 @@
 -- The names that an expression has are names.
-use Rattle.std.proofs.Common.{◌≡◌, ℕ, zero, suc, ◌+◌, ◌<◌, ◌≤◌, ◌&&◌, not, true, false, nat_lt, nat_le, Bool, List, [], ◌∷◌, ◌++◌, length, map, slice_get, Some, refl, sym, ◌∙◌, ap, arith, not}
+use Rattle.std.proofs.Common.{◌≡◌, ℕ, zero, suc, ◌<◌, ◌≤◌, not, true, false, nat_lt, nat_le, Bool, List, [], ◌∷◌, ◌++◌, length, map, slice_get, Some, refl, ◌∙◌, ap, arith, not}
 use Rattle.std.specs.List.{list_all}
 use Rattle.std.specs.Option.{option_map_or}
 use Rattle.std.proofs.lemmas.Bool.Decides.{nat_tests}
@@ -20,7 +20,7 @@ use Rattle.wf_semantics.proofs.Bools.{and_both}
 use Rattle.wf_lex.specs.declared.token.TokenKind.TheVariants as kinds
 use Rattle.wf_cursor.specs.declared.names.Declared.{Declared}
 use Rattle.wf_cursor.specs.declared.piece.Piece.TheVariants as pieces
-use Rattle.wf_cursor.specs.Pieces.{piece_of, same_piece, word_piece}
+use Rattle.wf_cursor.specs.Pieces.{piece_of, word_piece}
 use Rattle.wf_cursor.specs.Names.{declared_as}
 use Rattle.wf_cursor.proofs.Reserved.{names_are_not_reserved}
 use Rattle.wf_words.specs.Names.{unit_name, event_name, var_name, state_name, act_name}

@@ -1,16 +1,14 @@
 -- The canonical text of an expression is read back.
-use Rattle.std.proofs.Common.{◌≡◌, ℕ, ◌+◌, ◌≤◌, false, List, [], ◌∷◌, ◌++◌, length, drop, get_or, map, Ok, refl, sym, ◌∙◌, ap, subst, arith, append-nil, append_assoc}
+use Rattle.std.proofs.Common.{◌≡◌, ℕ, ◌≤◌, List, [], ◌++◌, length, drop, map, refl, sym, ◌∙◌, ap, subst, arith, append-nil, append_assoc}
 use Rattle.std.proofs.lemmas.List.{drop-map, drop_at}
-use Rattle.wf_model.specs.declared.limits.TheConstants.{MAX_NODES, MAX_OPEN, MAX_TOKENS}
+use Rattle.wf_model.specs.declared.limits.TheConstants.{MAX_OPEN}
 use Rattle.wf_model.specs.declared.chart.Chart.{Chart}
 use Rattle.wf_model.specs.declared.expr.Expr.{Expr}
 use Rattle.wf_model.specs.Accepted.{nodes}
-use Rattle.wf_model.specs.Names.{is_word_char}
 use Rattle.wf_lex.specs.declared.token.Token.{Token}
 use Rattle.wf_lex.specs.Lex.{tokens_of}
-use Rattle.wf_cursor.specs.Input.{Input}
 use Rattle.wf_print.specs.Expressions.{expr_text}
-use Rattle.wf_grammar.specs.Lexemes.{Lexeme, lexeme_of, lexemes}
+use Rattle.wf_grammar.specs.Lexemes.{lexeme_of, lexemes}
 use Rattle.wf_grammar.proofs.SpelledRead.{spelled_is_read}
 use Rattle.wf_canon.specs.Spans.{Span, written, lexemes_of, AreApart}
 use Rattle.wf_canon.specs.Expressions.{expr_spans}

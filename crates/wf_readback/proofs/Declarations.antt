@@ -1,6 +1,5 @@
 -- The declarations of a chart are read back.
-use Rattle.std.proofs.Common.{◌≡◌, ℕ, zero, suc, ◌+◌, ◌-◌, ◌<◌, ◌≤◌, ◌&&◌, Bool, true, false, nat_lt, List, [], ◌∷◌, ◌++◌, length, drop, flat_map, Option, Some, None, Ok, refl, sym, ◌∙◌, ap, ap₂, subst, arith, append-nil, append_assoc, length-append}
-use Rattle.std.specs.List.{list_all}
+use Rattle.std.proofs.Common.{◌≡◌, ℕ, zero, suc, ◌≤◌, true, false, nat_lt, List, [], ◌∷◌, ◌++◌, length, Option, Some, None, Ok, refl, sym, ◌∙◌, ap, arith, append-nil, append_assoc, length-append}
 use lib.Chars.{codes}
 use Rattle.wf_model.specs.declared.limits.TheConstants.{MAX_NAME}
 use Rattle.wf_model.specs.declared.ids.UnitId.{UnitId}
@@ -9,14 +8,11 @@ use Rattle.wf_model.specs.declared.chart.Event.{Event}
 use Rattle.wf_model.specs.declared.chart.Variable.{Variable}
 use Rattle.wf_model.specs.declared.chart.Activity.{Activity}
 use Rattle.wf_model.specs.declared.chart.Chart.{Chart}
-use Rattle.wf_model.specs.Names.{is_name}
 use Rattle.wf_model.specs.Accepted.{is_named}
-use Rattle.wf_semantics.proofs.Bools.{and_both}
 use Rattle.wf_cursor.specs.declared.names.Declared.{Declared}
 use Rattle.wf_cursor.specs.declared.names.Declared.TheVariants as declared_as_a
-use Rattle.wf_cursor.specs.declared.piece.Piece.{Piece}
 use Rattle.wf_cursor.specs.declared.piece.Piece.TheVariants as pieces
-use Rattle.wf_cursor.specs.Pieces.{piece_of, same_piece, word_piece, state_word, moving_word, value_word, sort_word, sign_piece, comparing_sign}
+use Rattle.wf_cursor.specs.Pieces.{piece_of, same_piece, word_piece, sign_piece, comparing_sign}
 use Rattle.wf_cursor.specs.Names.{declared_as}
 use Rattle.wf_cursor.specs.Input.{Input, is_piece, new_name, with_unit, with_event, with_var, with_act}
 use Rattle.wf_words.specs.Names.{unit_name, var_name}
@@ -29,7 +25,7 @@ use Rattle.wf_canon.specs.Spans.{Span, lexemes_of}
 use Rattle.wf_canon.specs.Expressions.{sign, blank}
 use Rattle.wf_canon.specs.Charts as spans
 use Rattle.wf_canon.specs.Charts.{one, first, between, parting, line_end, behind_commas, listed, place_of, literal_spans, is_short_value}
-use Rattle.wf_canon.proofs.Named.{name_lexeme, unit_named, var_named, below}
+use Rattle.wf_canon.proofs.Named.{name_lexeme, unit_named, var_named}
 use Rattle.wf_readback.specs.Declares.{unit_of, event_of, var_of, act_of}
 use Rattle.wf_readback.proofs.New.{found_before}
 use Rattle.wf_readback.proofs.Steps.{Made, At, Answers, expect_step, eat_step, eat_none, piece_at, left_at, variable_step, unit_step}

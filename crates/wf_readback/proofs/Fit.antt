@@ -1,5 +1,5 @@
 -- What an accepted chart has can be read.
-use Rattle.std.proofs.Common.{◌≡◌, ℕ, ◌≤◌, ◌&&◌, true, nat_lt, nat_le, List, [], ◌∷◌, length, Option, Some, None, Ok, refl, sym, arith}
+use Rattle.std.proofs.Common.{◌≡◌, ◌&&◌, true, nat_lt, nat_le, List, [], ◌∷◌, length, Option, Some, None, refl, arith}
 use Rattle.std.specs.List.{list_all}
 use Rattle.wf_model.specs.declared.limits.TheConstants.{MAX_NODES, MAX_ACTIONS}
 use Rattle.wf_model.specs.declared.ids.EventId.{EventId}
@@ -10,14 +10,13 @@ use Rattle.wf_model.specs.declared.chart.Transition.{Transition}
 use Rattle.wf_model.specs.declared.chart.Chart.{Chart}
 use Rattle.wf_model.specs.Accepted.{IsAccepted, is_accepted, is_small, nodes, all_of, is_known_expr, is_known_action, is_known_transition, is_small_action, is_small_transition}
 use Rattle.wf_semantics.proofs.Bools.{and_both}
-use Rattle.wf_cursor.specs.Input.{Input}
 use Rattle.wf_grammar.proofs.Inputs.{fits_is}
 use Rattle.wf_canon.specs.Expressions.{has_short_literals}
 use Rattle.wf_canon.specs.Charts.{is_short_value, is_short_action, is_short_transition, is_short}
 use Rattle.wf_canon.proofs.Known.{is_named_of, known}
 use Rattle.wf_readback.specs.Laws.{TransitionsAreRead}
 use Rattle.wf_readback.proofs.Steps.{made_of, at_end}
-use Rattle.wf_readback.proofs.Transitions.{IsFit, IsFitAction, AreFitActions, IsFitGuard, IsKnownCause, IsFitTransition, AreFitTransitions, transitions_step}
+use Rattle.wf_readback.proofs.Transitions.{IsFitAction, AreFitActions, IsFitGuard, IsKnownCause, IsFitTransition, AreFitTransitions, transitions_step}
 
 is_small_of : (chart : Chart) → IsAccepted chart → is_small chart ≡ true
 unfolding is_accepted

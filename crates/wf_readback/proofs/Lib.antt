@@ -8,3 +8,6 @@ pub mod Declaring
 pub mod Declarations
 pub mod Loops
 pub mod States
+pub mod Ordered
+pub mod Short
+pub mod Whole

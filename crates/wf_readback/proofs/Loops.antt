@@ -1,8 +1,7 @@
 -- All declarations, one kind after the other.
-use Rattle.std.proofs.Common.{◌≡◌, ℕ, zero, suc, ◌+◌, ◌-◌, ◌<◌, ◌≤◌, ◌&&◌, Bool, true, false, nat_lt, List, [], ◌∷◌, ◌++◌, length, drop, flat_map, Option, Some, None, Ok, refl, sym, ◌∙◌, ap, ap₂, subst, arith, append-nil, append_assoc, length-append}
+use Rattle.std.proofs.Common.{◌≡◌, ℕ, zero, suc, ◌+◌, ◌-◌, ◌≤◌, true, nat_lt, List, [], ◌∷◌, ◌++◌, length, flat_map, Option, Some, None, Ok, refl, sym, ◌∙◌, ap, ap₂, subst, arith, append-nil, append_assoc, length-append}
 use Rattle.std.specs.List.{list_all}
 use lib.Chars.{codes}
-use Rattle.wf_model.specs.declared.limits.TheConstants.{MAX_NAME}
 use Rattle.wf_model.specs.declared.ids.UnitId.{UnitId}
 use Rattle.wf_model.specs.declared.ids.VarId.{VarId}
 use Rattle.wf_model.specs.declared.chart.Event.{Event}
@@ -14,19 +13,17 @@ use Rattle.wf_model.specs.Accepted.{IsAccepted, is_named, is_unit, all_of, is_kn
 use Rattle.wf_semantics.proofs.Bools.{and_both}
 use Rattle.wf_cursor.specs.declared.names.Declared.{Declared}
 use Rattle.wf_cursor.specs.declared.names.Declared.TheVariants as declared_as_a
-use Rattle.wf_cursor.specs.declared.piece.Piece.{Piece}
 use Rattle.wf_cursor.specs.declared.piece.Piece.TheVariants as pieces
-use Rattle.wf_cursor.specs.Names.{declared_as}
 use Rattle.wf_cursor.specs.Input.{Input}
 use Rattle.wf_words.specs.Names.{unit_name, var_name}
 use Rattle.wf_text.specs.Declarations as decl
-use Rattle.wf_grammar.specs.Lexemes.{Lexeme, lexemes}
+use Rattle.wf_grammar.specs.Lexemes.{Lexeme}
 use Rattle.wf_grammar.specs.Phrases.{Names}
 use Rattle.wf_grammar.specs.Laws.{first_piece}
 use Rattle.wf_canon.specs.Spans.{Span, lexemes_of}
 use Rattle.wf_canon.specs.Charts as spans
 use Rattle.wf_canon.specs.Charts.{is_short_value, is_short_transition, is_short}
-use Rattle.wf_canon.proofs.Named.{HasNames, has_names, name_piece, name_is_short, below}
+use Rattle.wf_canon.proofs.Named.{has_names, name_piece, name_is_short, below}
 use Rattle.wf_canon.proofs.Known.{is_named_of, known, all_behind}
 use Rattle.wf_canon.proofs.Spelled.{lexemes-append}
 use Rattle.wf_readback.specs.Declares.{declared_from, unit_of, event_of, var_of, act_of, fault_alone, names_before_states}
@@ -125,7 +122,7 @@ acts_after chart named (x ∷ xs) m k size =
 
 -- ---- the whole
 
-remade : (i : Input) (ws : List Lexeme) (m n : Made) → m ≡ n → At i ws m → At i ws n
+pub remade : (i : Input) (ws : List Lexeme) (m n : Made) → m ≡ n → At i ws m → At i ws n
 remade i ws m n same at = record { left = at.left; made = at.made ∙ same }
 
 -- no declaration begins with the root
@@ -224,12 +221,12 @@ module _ (chart : Chart) (named : is_named chart ≡ true) where
   vars_declared : Orders chart → HasVars chart named (after_vars chart)
   vars_declared o x h = each_found (λ (y : Variable). y.name) var_of (after_events chart) 0 chart.vars x.0 o.vars (below x.0 (length chart.vars) h) ∙ at_zero var_of x.0
 
-  units_still : Orders chart → HasUnits chart named (after_vars chart)
+  pub units_still : Orders chart → HasUnits chart named (after_vars chart)
   units_still o u h =
       found_before (after_events chart) (declared_from (λ x. x.name) var_of 0 chart.vars) (unit_name chart u) (declared_as_a.Unit u)
       (found_before (after_units chart) (declared_from (λ x. x.name) event_of 1 (events_behind chart)) (unit_name chart u) (declared_as_a.Unit u) (units_declared o u h))
 
-fault_is : (chart : Chart) → HasFault chart → record { name = codes "fault"; unit = None } ∷ events_behind chart ≡ chart.events
+pub fault_is : (chart : Chart) → HasFault chart → record { name = codes "fault"; unit = None } ∷ events_behind chart ≡ chart.events
 fault_is chart f = sym (f.events ∙ ap₂ (λ (n : List ℕ) (u : Option UnitId). record { name = n; unit = u } ∷ events_behind chart) f.name f.unit)
 
 short_vars : (chart : Chart) → is_short chart ≡ true → list_all (λ x. is_short_value x.first) chart.vars ≡ true
@@ -237,31 +234,31 @@ unfolding is_short
 short_vars chart h = (and_both (list_all (λ x. is_short_value x.first) chart.vars) (list_all is_short_transition chart.transitions) h).0
 
 -- nothing but `fault`
-abbrev start : Input → Made
+abbrev pub start : Input → Made
 start i = record { text = i.text; units = []; events = record { name = codes "fault"; unit = None } ∷ []; vars = []; acts = []; states = i.states; names = fault_alone }
 
 module _ (chart : Chart) (i : Input) where
-  abbrev with_units : Made
+  abbrev pub with_units : Made
   with_units = record (start i) { units = chart.units; names = after_units chart }
 
-  abbrev with_events : Made
+  abbrev pub with_events : Made
   with_events = record with_units { events = record { name = codes "fault"; unit = None } ∷ events_behind chart; names = after_events chart }
 
-  abbrev with_vars : Made
+  abbrev pub with_vars : Made
   with_vars = record with_events { vars = chart.vars; names = after_vars chart }
 
-  abbrev with_acts : Made
+  abbrev pub with_acts : Made
   with_acts = record with_vars { acts = chart.acts; names = names_before_states chart }
 
   starts : i ≡ with_fault_alone i → made_of i ≡ start i
   starts e = ap (λ (k : Input). let m : Made = record { text = i.text; units = k.units; events = k.events; vars = k.vars; acts = k.acts; states = i.states; names = k.names } in m) e
 
-  record Read (more : List Lexeme) : Type 0 where
-    behind : Input
-    is : decl.declarations i ≡ Ok (tt, behind)
-    at : At behind more with_acts
+  pub record Read (more : List Lexeme) : Type 0 where
+    pub behind : Input
+    pub is : decl.declarations i ≡ Ok (tt, behind)
+    pub at : At behind more with_acts
 
-  read_all : IsAccepted chart → is_short chart ≡ true → (more : List Lexeme) → first_piece more ≡ Some pieces.Or → At i (lexemes_of (declaration_lines chart) ++ more) (start i) → Read more
+  pub read_all : IsAccepted chart → is_short chart ≡ true → (more : List Lexeme) → first_piece more ≡ Some pieces.Or → At i (lexemes_of (declaration_lines chart) ++ more) (start i) → Read more
   unfolding decl.declarations
   read_all ok short more next at =
       let named = is_named_of chart ok in

@@ -1,19 +1,16 @@
 -- The names of an accepted chart are declared as what they are.
-use Rattle.std.proofs.Common.{◌≡◌, ℕ, zero, suc, ◌+◌, ◌<◌, ◌&&◌, ◌||◌, ◌==◌, not, nat_lt, Bool, true, false, List, [], ◌∷◌, ◌++◌, length, drop, map, slice_get, Option, Some, None, is_none, refl, sym, ◌∙◌, ap, subst, arith, append-nil, append_assoc}
+use Rattle.std.proofs.Common.{◌≡◌, ℕ, zero, suc, ◌+◌, ◌<◌, ◌&&◌, nat_lt, true, List, [], ◌∷◌, ◌++◌, length, drop, map, slice_get, Option, Some, None, is_none, refl, sym, ◌∙◌, ap, subst, arith, append-nil, append_assoc}
 use Rattle.std.specs.List.{list_all, enumerate_from}
 use Rattle.std.specs.Option.{option_map_or}
 use Rattle.std.specs.Str.{bytes_eq}
 use Rattle.std.proofs.lemmas.Slice.Eq.{bytes_eq-Decides}
-use Rattle.std.proofs.lemmas.Bool.Decides.{nat_tests}
 use lib.Chars.{codes}
 use Rattle.wf_model.specs.declared.ids.UnitId.{UnitId}
-use Rattle.wf_model.specs.declared.ids.EventId.{EventId}
 use Rattle.wf_model.specs.declared.chart.Event.{Event}
 use Rattle.wf_model.specs.declared.chart.Variable.{Variable}
 use Rattle.wf_model.specs.declared.chart.Activity.{Activity}
 use Rattle.wf_model.specs.declared.chart.State.{State}
 use Rattle.wf_model.specs.declared.chart.Chart.{Chart}
-use Rattle.wf_model.specs.Names.{is_name}
 use Rattle.wf_model.specs.Accepted.{IsAccepted, is_accepted, is_named, is_numbered, is_new, is_unit, is_placed_event, all_numbered, all_of, names_of}
 use Rattle.wf_semantics.proofs.Bools.{and_both}
 use Rattle.wf_cursor.specs.declared.names.Declared.{Declared}
@@ -21,9 +18,9 @@ use Rattle.wf_cursor.specs.Names.{declared_as}
 use Rattle.wf_words.specs.Names.{unit_name, var_name, act_name}
 use Rattle.wf_grammar.specs.Phrases.{Names}
 use Rattle.wf_canon.proofs.Known.{is_named_of}
-use Rattle.wf_readback.specs.Declares.{Declares, declared_from, unit_of, event_of, var_of, act_of, state_of, fault_alone, names_before_states, all_names}
+use Rattle.wf_readback.specs.Declares.{declared_from, unit_of, event_of, var_of, act_of, state_of, fault_alone, names_before_states, all_names}
 use Rattle.wf_readback.specs.Laws.{NamesAreDeclared}
-use Rattle.wf_readback.proofs.New.{IsOther, AreNew, AreNewIn, Covers, Kind, kind_of, are_new, to_front, each_found, found_before, found_behind}
+use Rattle.wf_readback.proofs.New.{AreNew, AreNewIn, Covers, kind_of, are_new, to_front, each_found, found_before}
 
 abbrev pub events_behind : Chart → List Event
 events_behind chart = drop 1 chart.events
@@ -139,7 +136,7 @@ module _ (chart : Chart) where
   abbrev from_vars : Names
   from_vars = declared_from (λ x. x.name) var_of 0 chart.vars
 
-  abbrev from_acts : Names
+  abbrev pub from_acts : Names
   from_acts = declared_from (λ x. x.name) act_of 0 chart.acts
 
   abbrev from_states : Names

@@ -1,14 +1,12 @@
 -- What the words and signs of a canonical text are to the grammar.
-use Rattle.std.proofs.Common.{◌≡◌, ◌≢◌, ℕ, true, false, List, [], ◌∷◌, Some, refl}
+use Rattle.std.proofs.Common.{ℕ, List, Some, refl}
 use lib.Chars.{codes}
-use Rattle.wf_model.specs.declared.expr.Op.{Op}
 use Rattle.wf_model.specs.declared.expr.Op.TheVariants as o
 use Rattle.wf_lex.specs.declared.token.TokenKind.TheVariants as kinds
-use Rattle.wf_cursor.specs.declared.piece.Piece.{Piece}
 use Rattle.wf_cursor.specs.declared.piece.Piece.TheVariants as pieces
-use Rattle.wf_cursor.specs.Pieces.{piece_of, same_piece, word_piece, state_word, moving_word, value_word, sort_word, sign_piece, comparing_sign, reckoning_sign}
+use Rattle.wf_cursor.specs.Pieces.{piece_of, word_piece, state_word, moving_word, sign_piece}
 use Rattle.wf_grammar.specs.Lexemes.{Lexeme}
-use Rattle.wf_grammar.specs.Phrases.{Is, sign_of}
+use Rattle.wf_grammar.specs.Phrases.{Is}
 use Rattle.wf_grammar.specs.Laws.{IsNoOperator}
 use Rattle.wf_canon.specs.Spans.{lexeme}
 

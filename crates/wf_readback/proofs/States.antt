@@ -1,19 +1,18 @@
 -- The states of a chart are read back, where they are numbered as they stand in the text.
-use Rattle.std.proofs.Common.{◌≡◌, ℕ, zero, suc, ◌+◌, ◌-◌, ◌<◌, ◌≤◌, ◌&&◌, ◌==◌, Bool, true, false, nat_lt, List, [], ◌∷◌, ◌++◌, length, take, drop, flat_map, slice_get, Option, Some, None, Ok, refl, sym, ◌∙◌, ap, ap₂, subst, arith, inl, inr, append-nil, append_assoc, length-append}
+use Rattle.std.proofs.Common.{◌≡◌, ℕ, zero, suc, ◌+◌, ◌<◌, ◌≤◌, ◌==◌, Bool, true, false, List, [], ◌∷◌, ◌++◌, length, take, flat_map, slice_get, Option, Some, None, Ok, refl, sym, ◌∙◌, ap, ap₂, subst, arith, inl, inr, append-nil, append_assoc, length-append}
 use Rattle.std.specs.List.{list_all}
 use Rattle.std.specs.Option.{option_map, option_and_then}
 use Rattle.std.proofs.lemmas.Bool.Decides.{nat_tests}
 use lib.Chars.{codes}
-use Rattle.wf_model.specs.declared.limits.TheConstants.{MAX_NAME, MAX_DEPTH, MAX_OPEN}
-use Rattle.wf_model.specs.declared.ids.UnitId.{UnitId}
+use Rattle.wf_model.specs.declared.limits.TheConstants.{MAX_DEPTH}
 use Rattle.wf_model.specs.declared.ids.StateId.{StateId}
 use Rattle.wf_model.specs.declared.chart.Kind.{Kind}
 use Rattle.wf_model.specs.declared.chart.Kind.TheVariants as kinds
 use Rattle.wf_model.specs.declared.chart.State.{State}
 use Rattle.wf_model.specs.declared.chart.Chart.{Chart}
 use Rattle.wf_model.specs.Names.{is_name}
-use Rattle.wf_model.specs.Tree.{children, parent, parent_of, list_from}
-use Rattle.wf_model.specs.Accepted.{IsAccepted, is_named, is_unit}
+use Rattle.wf_model.specs.Tree.{children, parent, parent_of}
+use Rattle.wf_model.specs.Accepted.{IsAccepted, is_unit}
 use Rattle.wf_semantics.proofs.Bools.{and_both, Mem}
 use Rattle.wf_semantics.proofs.Children.{mem_child_parent, parent_inside, item_at, lt_or_ge}
 use Rattle.wf_semantics.proofs.Facts.{IsChart, chart_of}
@@ -24,7 +23,6 @@ use Rattle.wf_cursor.specs.Pieces.{piece_of, same_piece, word_piece, state_word,
 use Rattle.wf_cursor.specs.Names.{declared_as}
 use Rattle.wf_cursor.specs.Input.{Input, Parser, is_piece, next, next_state, with_state}
 use Rattle.wf_words.specs.Names.{unit_name}
-use Rattle.wf_print.specs.Words.{kind_word}
 use Rattle.wf_print.specs.States.{indent}
 use Rattle.wf_print.specs.Nested.{depth}
 use Rattle.std.proofs.lemmas.Option.{slice_get_past}
@@ -36,10 +34,9 @@ use Rattle.wf_grammar.specs.Lexemes.{Lexeme}
 use Rattle.wf_grammar.specs.Phrases.{Is}
 use Rattle.wf_grammar.specs.Laws.{first_piece}
 use Rattle.wf_canon.specs.Spans.{Span, lexemes_of}
-use Rattle.wf_canon.specs.Expressions.{sign, blank}
 use Rattle.wf_canon.specs.Charts as spans
 use Rattle.wf_canon.specs.Charts.{one, between, line_end, kind_spans, state_spans}
-use Rattle.wf_canon.proofs.Named.{HasNames, has_names, name_piece, name_is_short}
+use Rattle.wf_canon.proofs.Named.{has_names, name_piece, name_is_short}
 use Rattle.wf_canon.proofs.Known.{is_named_of, known}
 use Rattle.wf_canon.proofs.Spelled.{lexemes-append}
 use Rattle.wf_readback.specs.Declares.{declared_from, state_of, names_before_states}
@@ -53,23 +50,23 @@ use Rattle.wf_readback.proofs.Declarations.{IsNewName, HasUnits, naming, at_is, 
 
 -- ---- pieces
 
-abbrev kind_bytes : Kind → List ℕ
+abbrev pub kind_bytes : Kind → List ℕ
 kind_bytes kinds.Basic = codes "basic"
 kind_bytes kinds.Or = codes "or"
 kind_bytes kinds.And = codes "and"
 
-abbrev kind_piece : Kind → Piece
+abbrev pub kind_piece : Kind → Piece
 kind_piece kinds.Basic = pieces.Basic
 kind_piece kinds.Or = pieces.Or
 kind_piece kinds.And = pieces.And
 
-kind_is : (k : Kind) → Is (kind_piece k) (word_lexeme (kind_bytes k))
+pub kind_is : (k : Kind) → Is (kind_piece k) (word_lexeme (kind_bytes k))
 unfolding piece_of word_piece state_word
 kind_is kinds.Basic = refl
 kind_is kinds.Or = refl
 kind_is kinds.And = refl
 
-kind_found : (k : Kind) → text.kind_of (Some (kind_piece k)) ≡ Some k
+pub kind_found : (k : Kind) → text.kind_of (Some (kind_piece k)) ≡ Some k
 kind_found kinds.Basic = refl
 kind_found kinds.Or = refl
 kind_found kinds.And = refl
@@ -100,7 +97,7 @@ taken [] k x is = cc
 taken (y ∷ xs) zero x is = refl
 taken (y ∷ xs) (suc k) x is = omega (arith, taken xs k x is)
 
-all_at : {A : Type 0} (p : A → Bool) (xs : List A) (k : ℕ) (x : A) → list_all p xs ≡ true → slice_get xs k ≡ Some x → p x ≡ true
+pub all_at : {A : Type 0} (p : A → Bool) (xs : List A) (k : ℕ) (x : A) → list_all p xs ≡ true → slice_get xs k ≡ Some x → p x ≡ true
 all_at p [] k x h is = cc
 all_at p (y ∷ xs) zero x h is = let same : y ≡ x = cc in ap p (sym same) ∙ (and_both (p y) (list_all p xs) h).0
 all_at p (y ∷ xs) (suc k) x h is = all_at p xs k x (and_both (p y) (list_all p xs) h).1 is
@@ -140,14 +137,14 @@ run_parts k (x ∷ xs) ys h =
 
 -- ---- depths
 
-get_within : (xs : List State) (s : ℕ) (state : State) → slice_get xs s ≡ Some state → s < length xs
+pub get_within : (xs : List State) (s : ℕ) (state : State) → slice_get xs s ≡ Some state → s < length xs
 get_within xs s state is = elim (lt_or_ge s (length xs)) [
   | inl within ↦ within
   | inr past ↦ let none = slice_get_past xs s past in cc
 ]
 
 -- a child lies one level deeper
-depth_child : (chart : Chart) → IsChart chart → (k s : ℕ) → parent chart k ≡ Some s → depth chart k ≡ depth chart s + 1
+pub depth_child : (chart : Chart) → IsChart chart → (k s : ℕ) → parent chart k ≡ Some s → depth chart k ≡ depth chart s + 1
 unfolding ancestors_by
 depth_child chart ok zero s up = absurd (omega (arith, falls chart ok 0 s up))
 depth_child chart ok (suc k) s up =
@@ -236,7 +233,7 @@ module _ (chart : Chart) (accepted : IsAccepted chart) (new : AreNewIn (λ (y : 
   abbrev inner_spans : ℕ → ℕ → List ℕ → List Span
   inner_spans levels d ss = flat_map (state_spans chart levels d) ss
 
-  order_is : (levels s : ℕ) → states_from chart (suc levels) s ≡ s ∷ inner_order levels (children chart s)
+  pub order_is : (levels s : ℕ) → states_from chart (suc levels) s ≡ s ∷ inner_order levels (children chart s)
   unfolding states_from
   order_is levels s = refl
 
@@ -245,7 +242,7 @@ module _ (chart : Chart) (accepted : IsAccepted chart) (new : AreNewIn (λ (y : 
   unfolding state_spans
   spans_are levels d s state is = rw is refl
 
-  line_is : (levels d s : ℕ) (state : State) (ws : List Lexeme) → slice_get chart.states s ≡ Some state
+  pub line_is : (levels d s : ℕ) (state : State) (ws : List Lexeme) → slice_get chart.states s ≡ Some state
       → lexemes_of (state_spans chart (suc levels) d s) ++ ws
       ≡ word_lexeme (kind_bytes state.kind) ∷ word_lexeme state.name ∷ word_lexeme (codes "at") ∷ word_lexeme (unit_name chart state.unit)
       ∷ (lexemes_of (spans.body d (length (children chart s) == 0) (inner_spans levels (d + 1) (children chart s))) ++ ws)

@@ -1,5 +1,5 @@
 -- What the steps of rules answer, where the next lexemes are known.
-use Rattle.std.proofs.Common.{◌≡◌, ℕ, ◌+◌, ◌≤◌, true, false, Bool, nat_le, List, [], ◌∷◌, ◌++◌, length, map, Option, Some, None, Ok, refl, sym, ◌∙◌, ap, subst, arith}
+use Rattle.std.proofs.Common.{◌≡◌, ℕ, ◌+◌, ◌≤◌, true, false, nat_le, List, [], ◌∷◌, length, Some, Ok, refl, sym, ◌∙◌, ap, subst}
 use Rattle.std.proofs.lemmas.List.{length-map}
 use Rattle.wf_model.specs.declared.limits.TheConstants.{MAX_NAME}
 use Rattle.wf_model.specs.declared.ids.UnitId.{UnitId}
@@ -16,13 +16,12 @@ use Rattle.wf_cursor.specs.declared.names.Declared.{Declared}
 use Rattle.wf_cursor.specs.declared.names.Declared.TheVariants as declared_as_a
 use Rattle.wf_cursor.specs.declared.piece.Piece.{Piece}
 use Rattle.wf_cursor.specs.declared.piece.Piece.TheVariants as pieces
-use Rattle.wf_cursor.specs.Pieces.{same_piece}
 use Rattle.wf_cursor.specs.Input as input
 use Rattle.wf_cursor.specs.Input.{Input, Outcome, Parser, piece, spelling, declared, next, sees, is_piece, eat, expect, take, name_ahead}
 use Rattle.wf_grammar.specs.Lexemes.{Lexeme, lexeme_of, lexemes}
 use Rattle.wf_grammar.specs.Phrases.{Names, Is, IsNameOf}
 use Rattle.wf_grammar.specs.Laws.{first_piece}
-use Rattle.wf_grammar.proofs.Inputs.{here, piece_here, piece_none, spelling_here, next_here, declared_here, is_fit}
+use Rattle.wf_grammar.proofs.Inputs.{here, spelling_here, next_here, declared_here, is_fit}
 use Rattle.wf_grammar.proofs.SpellSteps.{expect_here, sees_here, variable_here, state_here, activity_here, headed, emptied, piece_first}
 
 -- the text, and all that was declared

@@ -1,6 +1,5 @@
 -- The transitions of a chart are read back.
-use Rattle.std.proofs.Common.{◌≡◌, ℕ, zero, suc, ◌+◌, ◌≤◌, ◌&&◌, Bool, true, false, nat_lt, List, [], ◌∷◌, ◌++◌, length, drop, map, flat_map, Option, Some, None, Ok, refl, sym, ◌∙◌, ap, subst, arith, append-nil, append_assoc, length-append}
-use Rattle.std.specs.List.{list_all}
+use Rattle.std.proofs.Common.{◌≡◌, ℕ, zero, suc, ◌≤◌, true, false, nat_lt, List, [], ◌∷◌, ◌++◌, length, drop, flat_map, Option, Some, None, Ok, refl, sym, ◌∙◌, ap, subst, arith, append-nil, append_assoc, length-append}
 use Rattle.std.proofs.lemmas.List.{drop-map, drop_at}
 use lib.Chars.{codes}
 use Rattle.wf_model.specs.declared.limits.TheConstants.{MAX_NODES}
@@ -13,30 +12,26 @@ use Rattle.wf_model.specs.declared.chart.Action.{Action}
 use Rattle.wf_model.specs.declared.chart.Action.TheVariants as act
 use Rattle.wf_model.specs.declared.chart.Transition.{Transition}
 use Rattle.wf_model.specs.declared.chart.Chart.{Chart}
-use Rattle.wf_model.specs.Accepted.{nodes, is_named, all_of, is_known_expr, is_known_action, is_known_transition, is_small_action, is_small_transition}
-use Rattle.wf_semantics.proofs.Bools.{and_both}
-use Rattle.wf_lex.specs.declared.token.TokenKind.TheVariants as kinds
+use Rattle.wf_model.specs.Accepted.{nodes, is_named, is_known_expr}
 use Rattle.wf_cursor.specs.declared.names.Declared.TheVariants as declared_as_a
 use Rattle.wf_cursor.specs.declared.piece.Piece.{Piece}
 use Rattle.wf_cursor.specs.declared.piece.Piece.TheVariants as pieces
-use Rattle.wf_cursor.specs.Pieces.{piece_of, same_piece, word_piece, state_word, moving_word, value_word, sort_word, sign_piece}
+use Rattle.wf_cursor.specs.Pieces.{piece_of, same_piece, word_piece, state_word, moving_word, sign_piece}
 use Rattle.wf_cursor.specs.Input.{Input, is_piece, next as skipped}
 use Rattle.wf_words.specs.Names.{event_name, var_name, act_name, state_name}
 use Rattle.wf_phrase.specs.Expressions.{expr}
 use Rattle.wf_text.specs.Transitions.{caused, guarded, assigned, raised, started, action, actions_from, actions, effects, transition, transitions_from, transitions}
-use Rattle.wf_grammar.specs.Lexemes.{Lexeme, lexeme_of, lexemes}
+use Rattle.wf_grammar.specs.Lexemes.{Lexeme, lexeme_of}
 use Rattle.wf_grammar.specs.Phrases.{IsNameOf}
 use Rattle.wf_grammar.specs.Laws.{behind, first_piece, IsNoOperator}
-use Rattle.wf_grammar.proofs.Inputs.{fits_is}
 use Rattle.wf_canon.specs.Spans.{Span, lexemes_of}
 use Rattle.wf_canon.specs.Expressions.{AreDeclared, sign, blank, expr_spans, has_short_literals}
-use Rattle.wf_canon.specs.Charts as spans
-use Rattle.wf_canon.specs.Charts.{one, between, line_end, behind_commas, listed, action_spans, ends, trigger, condition, transition_line, is_short_action, is_short_transition}
+use Rattle.wf_canon.specs.Charts.{between, line_end, behind_commas, listed, action_spans, ends, trigger, condition, transition_line}
 use Rattle.wf_canon.proofs.Spelled.{lexemes-append}
 use Rattle.wf_canon.proofs.Named.{below, name_lexeme, event_named, var_named, act_named, state_named}
 use Rattle.wf_canon.proofs.ReadBack.{expr_is_read}
 use Rattle.wf_readback.specs.Declares.{Declares}
-use Rattle.wf_readback.proofs.Steps.{Made, made_of, At, Answers, names_at, expect_step, eat_step, eat_none, next_at, piece_at, sees_at, left_at, variable_step, state_step, activity_step, event_step}
+use Rattle.wf_readback.proofs.Steps.{Made, At, Answers, names_at, expect_step, eat_step, eat_none, next_at, piece_at, sees_at, left_at, variable_step, state_step, activity_step, event_step}
 use Rattle.wf_readback.proofs.Pieces.{word_lexeme, sign_lexeme, from_is, to_is, on_is, if_is, do_is, raise_is, start_is, semicolon_is, comma_is, assign_is, no_operator_do, no_operator_semicolon, no_operator_comma}
 
 abbrev semicolon : Lexeme

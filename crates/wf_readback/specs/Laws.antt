@@ -1,16 +1,21 @@
 -- The canonical text of a chart is read back.
-use Rattle.std.specs.Prelude.{◌≡◌, ◌++◌, List, [], ◌∷◌, drop, flat_map, None, Some, Ok, IsTrue}
+use Rattle.std.specs.Prelude.{◌≡◌, ◌≤◌, ◌++◌, List, [], ◌∷◌, length, drop, flat_map, None, Some, Ok, IsTrue}
 use lib.Chars.{codes}
+use Rattle.wf_model.specs.declared.limits.TheConstants.{MAX_TOKENS}
 use Rattle.wf_model.specs.declared.chart.Chart.{Chart}
 use Rattle.wf_model.specs.Accepted.{IsAccepted}
 use Rattle.wf_cursor.specs.Input.{Input}
 use Rattle.wf_cursor.specs.declared.piece.Piece.TheVariants as pieces
+use Rattle.wf_print.specs.ChartText.{chart_text}
+use Rattle.wf_text.specs.Text.{Means}
 use Rattle.wf_text.specs.Declarations.{declarations}
 use Rattle.wf_grammar.specs.Lexemes.{Lexeme, lexemes}
 use Rattle.wf_grammar.specs.Laws.{first_piece}
 use Rattle.wf_text.specs.Transitions.{transitions}
 use Rattle.wf_canon.specs.Spans.{Span, lexemes_of}
-use Rattle.wf_canon.specs.Charts.{unit_line, event_line, var_line, activity_line, transition_line, is_short}
+use Rattle.wf_canon.specs.Charts.{unit_line, event_line, var_line, activity_line, transition_line, chart_spans, is_short}
+use Rattle.wf_readback.specs.Order.{IsInOrder}
+use Rattle.wf_readback.specs.Held.{is_held}
 use Rattle.wf_readback.specs.Declares.{Declares, fault_alone, names_before_states, all_names}
 
 -- Where the tokens of an accepted chart's transitions are left and its names are declared, the reader reads these transitions to the
@@ -42,3 +47,14 @@ DeclarationsAreRead =
     lexemes i ≡ lexemes_of (declaration_lines chart) ++ more → first_piece more ≡ Some pieces.Or →
     (j : Input) × (declarations i ≡ Ok (tt, j)) × (lexemes j ≡ more)
     × (j ≡ record i { left = j.left; at = j.at; units = chart.units; events = chart.events; vars = chart.vars; acts = chart.acts; names = names_before_states chart; nodes = j.nodes })
+
+-- the states of an accepted chart are numbered as they stand in its canonical text
+abbrev pub StatesAreInOrder : Type 0
+StatesAreInOrder = (chart : Chart) → IsAccepted chart → IsInOrder chart
+
+-- The canonical text of an accepted chart means that chart, where its literals are such as a program holds, and where it has at
+-- most MAX_TOKENS tokens: the text of a large chart may have more.
+abbrev pub ChartIsReadBack : Type 0
+ChartIsReadBack =
+    (chart : Chart) → IsAccepted chart → IsTrue (is_held chart) → length (lexemes_of (chart_spans chart)) ≤ MAX_TOKENS →
+    Means (chart_text chart) chart

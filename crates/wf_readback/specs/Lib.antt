@@ -1,3 +1,4 @@
 pub mod Declares
-pub mod Laws
 pub mod Order
+pub mod Held
+pub mod Laws

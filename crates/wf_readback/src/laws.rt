@@ -1,5 +1,11 @@
 //! Laws of the reader on canonical texts.
-ghost use Rattle.wf_readback.specs.Laws.{DeclarationsAreRead, NamesAreDeclared, TransitionsAreRead};
+ghost use Rattle.wf_readback.specs.Laws.{
+  ChartIsReadBack,
+  DeclarationsAreRead,
+  NamesAreDeclared,
+  StatesAreInOrder,
+  TransitionsAreRead,
+};
 
 /// Where the tokens of an accepted chart's transitions are left and its names are declared as what they are, the reader answers
 /// these transitions. Then no token is left, and what was declared is as before.
@@ -16,4 +22,15 @@ pub fn names_are_declared()
 /// has declared then is what the chart has, but the states.
 pub fn declarations_are_read()
     ensures { DeclarationsAreRead }
+{}
+
+/// The states of an accepted chart are numbered as they stand in its canonical text.
+pub fn states_are_in_order()
+    ensures { StatesAreInOrder }
+{}
+
+/// The canonical text of an accepted chart means that chart, where its literals are such as a program holds, and if it hasn't too
+/// many tokens: the text of a large chart may have more than can be read.
+pub fn chart_is_read_back()
+    ensures { ChartIsReadBack }
 {}

@@ -3,4 +3,7 @@
 
 mod laws;
 
-pub use laws::{declarations_are_read, names_are_declared, transitions_are_read};
+pub use laws::{
+    chart_is_read_back, declarations_are_read, names_are_declared, states_are_in_order,
+    transitions_are_read,
+};

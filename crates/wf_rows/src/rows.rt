@@ -93,6 +93,22 @@ fn check(rt: HostRuntime) -> Result<(), Fail> {
 }
 
 #[test]
+fn front_parts(rt: HostRuntime) -> Result<(), Fail> {
+    for bytes in 0..SIDES.len() {
+        let input = List::from_slice(rt.alloc(), &SIDES.as_bytes()[..bytes])?;
+        let ends = Ends {
+            piece: 4096,
+            failing_reads: &[],
+            failing_writes: &[],
+        };
+        let outcome = run(rt.alloc(), "check", input, ends)?;
+        let is_judged = matches!(outcome.status, Status::Ok | Status::ChartRefused);
+        assert!(rt; is_judged, "at {bytes}");
+    }
+    Ok(())
+}
+
+#[test]
 fn refused(rt: HostRuntime) -> Result<(), Fail> {
     let rows = [
         ("", 0, Status::Words, "refused words\n"),

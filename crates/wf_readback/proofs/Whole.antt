@@ -1,5 +1,5 @@
 -- The canonical text of a chart is read back.
-use Rattle.std.proofs.Common.{◌≡◌, ℕ, ◌+◌, ◌-◌, ◌≤◌, true, List, [], ◌∷◌, ◌++◌, length, take, drop, flat_map, slice_get, map, Option, Some, None, Ok, refl, sym, ◌∙◌, ap, ap₂, subst, arith, append-nil, append_assoc}
+use Rattle.std.proofs.Common.{◌≡◌, ℕ, ◌+◌, ◌-◌, ◌≤◌, true, List, [], ◌∷◌, ◌++◌, length, take, drop, flat_map, slice_get, map, Option, Some, None, Ok, refl, sym, ◌∙◌, ap, ap₂, subst, arith, append-nil, length-append, append_assoc}
 use Rattle.std.specs.Option.{option_map}
 use Rattle.std.proofs.lemmas.List.{take_all}
 use lib.Chars.{codes}
@@ -30,15 +30,15 @@ use Rattle.wf_grammar.specs.Lexemes.{Lexeme, lexeme_of, lexemes}
 use Rattle.wf_grammar.specs.Phrases.{Is}
 use Rattle.wf_grammar.specs.Laws.{first_piece}
 use Rattle.wf_grammar.proofs.Inputs.{here, spelling_here, next_here}
-use Rattle.wf_canon.specs.Spans.{Span, lexemes_of}
+use Rattle.wf_canon.specs.Spans.{Span, written, lexemes_of, AreApart}
 use Rattle.wf_canon.specs.Charts as spans
 use Rattle.wf_canon.specs.Charts.{state_spans, transition_line, chart_spans, is_short}
 use Rattle.wf_canon.proofs.Named.{has_names, name_piece, name_is_short}
 use Rattle.wf_canon.proofs.Known.{is_named_of}
-use Rattle.wf_canon.proofs.ChartFits.{chart_is_cut}
+use Rattle.wf_canon.proofs.ChartFits.{chart_fits, chart_is_cut}
 use Rattle.wf_readback.specs.Declares.{declared_from, state_of, names_before_states, all_names}
 use Rattle.wf_readback.specs.Order.{states_from, IsInOrder}
-use Rattle.wf_readback.specs.Laws.{declaration_lines, ChartIsReadBack}
+use Rattle.wf_readback.specs.Laws.{declaration_lines, ChartIsReadBack, ShortTextIsReadBack}
 use Rattle.wf_readback.proofs.New.{found_before}
 use Rattle.wf_readback.proofs.Steps.{Made, made_of, At, Answers, one_token, name_here, expect_step, piece_at, left_at}
 use Rattle.wf_readback.proofs.Pieces.{word_lexeme, sign_lexeme, semicolon_is}
@@ -210,3 +210,17 @@ chart_is_read_back chart accepted held few =
     let p = contents_step chart accepted short order begins (made_of begins) (record { left = start_left (chart_text chart) cut.0 ∙ cut.2; made = refl })
     (fresh_start (chart_text chart) cut.0) (no_states_yet (chart_text chart) cut.0) in
     rw cut.1 (rw p.is (ap Ok (chart_is_whole chart accepted p.before p.behind p.made)))
+
+-- ---- short texts
+
+few_lexemes : (spans : List Span) (rest : List ℕ) → AreApart spans rest → length (lexemes_of spans) ≤ length (written spans)
+few_lexemes [] rest apart = omega arith
+few_lexemes (Span.gap bytes ∷ spans) rest apart = omega (arith, length-append bytes (written spans), few_lexemes spans rest apart.1)
+few_lexemes (Span.token kind [] ∷ spans) rest apart = absurd apart.0
+few_lexemes (Span.token kind (b ∷ bs) ∷ spans) rest apart = omega (arith, length-append (b ∷ bs) (written spans), few_lexemes spans rest apart.2)
+
+pub short_text_is_read_back : ShortTextIsReadBack
+short_text_is_read_back chart accepted held few =
+    let fits = chart_fits chart accepted (short_of chart accepted held) in
+    let size = ap length fits.says in
+    chart_is_read_back chart accepted held (omega (arith, few, size, few_lexemes (chart_spans chart) [] (fits.apart [] tt)))

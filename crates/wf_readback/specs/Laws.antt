@@ -58,3 +58,9 @@ abbrev pub ChartIsReadBack : Type 0
 ChartIsReadBack =
     (chart : Chart) → IsAccepted chart → IsTrue (is_held chart) → length (lexemes_of (chart_spans chart)) ≤ MAX_TOKENS →
     Means (chart_text chart) chart
+
+-- so is each canonical text of at most MAX_TOKENS bytes
+abbrev pub ShortTextIsReadBack : Type 0
+ShortTextIsReadBack =
+    (chart : Chart) → IsAccepted chart → IsTrue (is_held chart) → length (chart_text chart) ≤ MAX_TOKENS →
+    Means (chart_text chart) chart

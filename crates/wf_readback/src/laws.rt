@@ -3,6 +3,7 @@ ghost use Rattle.wf_readback.specs.Laws.{
   ChartIsReadBack,
   DeclarationsAreRead,
   NamesAreDeclared,
+  ShortTextIsReadBack,
   StatesAreInOrder,
   TransitionsAreRead,
 };
@@ -33,4 +34,9 @@ pub fn states_are_in_order()
 /// many tokens: the text of a large chart may have more than can be read.
 pub fn chart_is_read_back()
     ensures { ChartIsReadBack }
+{}
+
+/// So does each canonical text of at most as many bytes as a text may have tokens.
+pub fn short_text_is_read_back()
+    ensures { ShortTextIsReadBack }
 {}

@@ -4,6 +4,6 @@
 mod laws;
 
 pub use laws::{
-    chart_is_read_back, declarations_are_read, names_are_declared, states_are_in_order,
-    transitions_are_read,
+    chart_is_read_back, declarations_are_read, names_are_declared, short_text_is_read_back,
+    states_are_in_order, transitions_are_read,
 };

@@ -6,9 +6,8 @@ ghost use Rattle.wf_model.specs.Plain.{is_plain};
 use std::alloc::Global;
 use std::test::Fail;
 use wf_audit::{CentralLine, ScriptFault, read_central};
-use wf_central::CentralState;
 use wf_check::{check, is_plain};
-use wf_model::{Checked, Entry, EventId, Kind, List, Outer, OuterFault, StateId, TransId, UnitId};
+use wf_model::{Checked, EventId, Kind, Outer, StateId, TransId, UnitId};
 use wf_scopes::{Scopes, kind_of, parent_at};
 use wf_text::read_chart;
 
@@ -51,29 +50,6 @@ fn tables(rt: HostRuntime) -> Result<(), Fail> {
     for (s, enters) in [(1, true), (3, true), (4, false), (6, false), (7, true)] {
         assert_eq!(rt; scopes.enters(TransId(1), StateId(s)), enters, "at {s}");
     }
-    Ok(())
-}
-
-#[test]
-fn steps(rt: HostRuntime) -> Result<(), Fail> {
-    let alloc = rt.alloc();
-    let checked = checked(alloc, SIDES.as_bytes())?;
-    let mut state = CentralState::first(alloc, &checked)?;
-    assert!(rt; state.is_in(StateId(3)));
-    assert_eq!(rt; state.taken(), 0);
-    let (here, there) = (UnitId(0), UnitId(1));
-    let outer = Outer::Happen(EventId(1));
-    assert_eq!(rt; state.may_admit(&checked, &[], here, &outer), Ok(()));
-    assert_eq!(rt;
-        state.may_admit(&checked, &[], there, &outer),
-        Err(OuterFault::WrongUnit)
-    );
-    let mut coming = List::new(alloc);
-    coming.push(Entry { unit: here, outer })?;
-    let notes = state.step(alloc, &checked, coming.as_slice())?;
-    assert_eq!(rt; notes.fired.as_slice(), [TransId(0)].as_slice());
-    assert!(rt; state.is_in(StateId(4)));
-    assert_eq!(rt; state.raised().len(), 0);
     Ok(())
 }
 

@@ -1,8 +1,8 @@
 //! The central run of a script.
 ghost use Rattle.std.specs.Prelude.{◌≡◌, ◌≤◌, ◌<◌, ◌+◌, ◌++◌, ◌==◌, length, filter, IsTrue, IfOk, OnOk};
 ghost use Rattle.wf_model.specs.Accepted.{IsAccepted};
-ghost use Rattle.wf_model.specs.Plain.{is_plain};
-ghost use Rattle.wf_model.specs.declared.limits.TheConstants.{MAX_PLAIN_LINES, MAX_STEPS};
+ghost use Rattle.wf_central.specs.Plain.{is_plain};
+ghost use Rattle.wf_model.specs.declared.limits.TheConstants.{MAX_STEPS};
 ghost use Rattle.wf_central.specs.Kept.{central_of, IsOf};
 ghost use Rattle.wf_audit.specs.CentralText as spec;
 ghost use Rattle.wf_audit.specs.Standings.{standing_of};
@@ -12,6 +12,9 @@ use crate::script::CentralLine;
 use std::alloc::Global;
 use wf_central::CentralState;
 use wf_model::{Bytes, Chart, Checked, Duplicate, Entry, List, NoMemory, Outer, StateId, UnitId};
+
+/// Lines of a script that a plain run takes, blank ones among them.
+pub const MAX_PLAIN_LINES: usize = 2_000;
 
 /// Where a run stands: its state, and the outers that were admitted for the next step.
 #[derive(Debug, Drop)]

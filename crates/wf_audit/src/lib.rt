@@ -9,7 +9,7 @@ mod script;
 #[cfg(test)]
 mod tests;
 
-pub use central::run_central;
+pub use central::{MAX_PLAIN_LINES, run_central};
 pub use lines::{Division, divide};
 pub use reply::{Reply, append_reply};
 pub use script::{CentralLine, ScriptFault, read_central};

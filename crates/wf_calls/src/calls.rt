@@ -1,12 +1,11 @@
 //! The calls below the top call, each over a chart that is read and checked.
-ghost use Rattle.std.specs.Prelude.{◌≤◌, length, IfOk, IsTrue};
+ghost use Rattle.std.specs.Prelude.{◌≤◌, length};
 ghost use Rattle.wf_model.specs.declared.limits.TheConstants.{MAX_INPUT};
-ghost use Rattle.wf_model.specs.Plain.{is_plain};
 
 use std::alloc::Global;
 use std::test::Fail;
 use wf_audit::{CentralLine, ScriptFault, read_central};
-use wf_check::{check, is_plain};
+use wf_check::check;
 use wf_model::{Checked, EventId, Kind, Outer, StateId, TransId, UnitId};
 use wf_scopes::{Scopes, kind_of, parent_at};
 use wf_text::read_chart;
@@ -20,17 +19,11 @@ from B1 to B2 on e;
 from B2 to C2 on f;
 ";
 
-/// The plain chart of a text.
+/// The chart of a text.
 fn checked(alloc: Global, text: &[u8]) -> Result<Checked, Fail>
     requires { length text.now ≤ MAX_INPUT }
-    ensures { IfOk result (λ chart. IsTrue (is_plain chart)) }
 {
-    let checked = check(alloc, read_chart(alloc, text)?)?;
-    if is_plain(checked.chart()) {
-        Ok(checked)
-    } else {
-        Err(Fail::from("a chart that isn't plain"))
-    }
+    Ok(check(alloc, read_chart(alloc, text)?)?)
 }
 
 #[test]

@@ -4,7 +4,7 @@ use Rattle.std.specs.List.{take_while, list_all}
 use Rattle.std.specs.Fmt.{decimal}
 use Rattle.std.proofs.lemmas.Bool.Decides.{nat_tests}
 use lib.Chars.{codes}
-use Rattle.wf_model.specs.declared.limits.TheConstants.{MAX_TEXT}
+use Rattle.wf_model.specs.declared.limits.TheConstants.{MAX_TEXT, MAX_INT}
 use Rattle.wf_model.specs.declared.chart.Chart.{Chart}
 use Rattle.wf_model.specs.declared.expr.Op.{Op}
 use Rattle.wf_model.specs.declared.expr.Op.TheVariants as o
@@ -17,7 +17,6 @@ use Rattle.wf_semantics.proofs.Bools.{and_both}
 use Rattle.wf_lex.specs.declared.token.TokenKind.TheVariants as kinds
 use Rattle.wf_lex.specs.Lex.{with_kind, text_rest, token_at}
 use Rattle.wf_lex.specs.Slices.{IsToken}
-use Rattle.wf_cursor.specs.declared.value.TheConstants.{MAX_INT}
 use Rattle.wf_words.specs.Names.{var_name, state_name, act_name}
 use Rattle.wf_print.specs.Words.{quoted}
 use Rattle.wf_canon.specs.Spans.{Span, written, goes_on, AreApart}

@@ -5,11 +5,10 @@ use Rattle.std.specs.Fmt.{decimal}
 use Rattle.std.proofs.lemmas.Fmt.{decimal_by_steps}
 use Rattle.std.proofs.lemmas.List.Sums.{take_while-cons, fold-append}
 use Rattle.std.proofs.lemmas.Bool.Decides.{nat_tests}
-use Rattle.wf_model.specs.declared.limits.TheConstants.{MAX_TEXT}
+use Rattle.wf_model.specs.declared.limits.TheConstants.{MAX_TEXT, MAX_INT}
 use Rattle.wf_model.specs.Names.{is_digit}
 use Rattle.wf_model.specs.Txt.{is_text_char, is_text}
 use Rattle.wf_semantics.proofs.Bools.{and_both, and_true}
-use Rattle.wf_cursor.specs.declared.value.TheConstants.{MAX_INT}
 use Rattle.wf_cursor.specs.Values.{with_digit, number, number_up_to, characters, short_text}
 use Rattle.wf_print.specs.Words.{quoted}
 

@@ -11,7 +11,7 @@ use Rattle.wf_model.specs.declared.expr.Expr.TheVariants as e
 use Rattle.wf_model.specs.Accepted.{nodes, is_known_expr, is_named}
 use Rattle.wf_semantics.proofs.Bools.{and_both}
 use Rattle.wf_lex.specs.declared.token.TokenKind.TheVariants as kinds
-use Rattle.wf_cursor.specs.declared.value.TheConstants.{MAX_INT}
+use Rattle.wf_model.specs.declared.limits.TheConstants.{MAX_INT}
 use Rattle.wf_cursor.specs.declared.names.Declared.TheVariants as declared_as_a
 use Rattle.wf_cursor.specs.declared.piece.Piece.TheVariants as pieces
 use Rattle.wf_cursor.specs.Pieces.{piece_of, word_piece, state_word, moving_word, value_word, sign_piece, comparing_sign, reckoning_sign}

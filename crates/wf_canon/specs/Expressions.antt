@@ -2,7 +2,7 @@
 use Rattle.std.specs.Prelude.{◌≡◌, ℕ, ◌++◌, ◌<◌, Bool, true, ◌&&◌, nat_le, List, [], ◌∷◌, length, Some}
 use Rattle.std.specs.Fmt.{decimal}
 use lib.Chars.{codes}
-use Rattle.wf_model.specs.declared.limits.TheConstants.{MAX_TEXT}
+use Rattle.wf_model.specs.declared.limits.TheConstants.{MAX_TEXT, MAX_INT}
 use Rattle.wf_model.specs.declared.ids.VarId.{VarId}
 use Rattle.wf_model.specs.declared.ids.StateId.{StateId}
 use Rattle.wf_model.specs.declared.ids.ActId.{ActId}
@@ -13,7 +13,6 @@ use Rattle.wf_model.specs.declared.expr.Expr.{Expr, end_of-Expr, more_of-Expr}
 use Rattle.wf_model.specs.declared.expr.Expr.TheVariants as e
 use Rattle.wf_model.specs.Txt.{is_text}
 use Rattle.wf_lex.specs.declared.token.TokenKind.TheVariants as kinds
-use Rattle.wf_cursor.specs.declared.value.TheConstants.{MAX_INT}
 use Rattle.wf_cursor.specs.declared.names.Declared.TheVariants as declared_as_a
 use Rattle.wf_cursor.specs.Names.{declared_as}
 use Rattle.wf_words.specs.Names.{var_name, state_name, act_name}

@@ -10,7 +10,7 @@ use Rattle.wf_model.specs.declared.outer.Output.{Output}
 use Rattle.wf_model.specs.declared.outer.Outer.TheVariants.{Happen, Complete}
 use Rattle.wf_model.specs.declared.outer.OuterFault.TheVariants.{WrongUnit}
 use Rattle.wf_model.specs.declared.outer.Entry.{Entry}
-use Rattle.wf_model.specs.Plain.{is_plain}
+use Rattle.wf_central.specs.Plain.{is_plain}
 use Rattle.wf_semantics.specs.Run.{CentralState}
 use Rattle.wf_semantics.specs.Admission.{may_be_admitted, is_event_at, is_act_at}
 use Rattle.wf_central.proofs.Quiet.{no_acts}

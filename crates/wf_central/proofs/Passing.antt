@@ -9,7 +9,7 @@ use Rattle.wf_model.specs.declared.chart.Transition.{Transition}
 use Rattle.wf_model.specs.declared.chart.Chart.{Chart}
 use Rattle.wf_model.specs.declared.outer.Entry.{Entry}
 use Rattle.wf_model.specs.Accepted.{IsAccepted}
-use Rattle.wf_model.specs.Plain.{is_plain}
+use Rattle.wf_central.specs.Plain.{is_plain}
 use Rattle.wf_model.specs.Tree.{scope, source, ancestors, all_states, all_transitions}
 use Rattle.wf_semantics.specs.Configuration.{is_in, IsConfiguration}
 use Rattle.wf_semantics.specs.Walk.{new_tree, fired_of, first_of_scope}

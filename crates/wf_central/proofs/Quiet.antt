@@ -9,7 +9,7 @@ use Rattle.wf_model.specs.declared.outer.Output.{Output}
 use Rattle.wf_model.specs.declared.outer.Outer.{Outer}
 use Rattle.wf_model.specs.declared.outer.Outer.TheVariants.{Happen, Complete}
 use Rattle.wf_model.specs.declared.outer.Entry.{Entry}
-use Rattle.wf_model.specs.Plain.{is_plain, is_plain_transition}
+use Rattle.wf_central.specs.Plain.{is_plain, is_plain_transition}
 use Rattle.wf_semantics.specs.Snapshot.{Snapshot}
 use Rattle.wf_semantics.specs.Effects.{actions_of, after_outputs, after_outer, after_entries, after_actions, after_fired, action_raises, raises, raised_by, starts_from, starts_of}
 use Rattle.wf_semantics.specs.Items.{Completion, close_all}

@@ -5,7 +5,7 @@ use Rattle.wf_model.specs.declared.chart.Chart.{Chart}
 use Rattle.wf_model.specs.declared.chart.Variable.{Variable}
 use Rattle.wf_model.specs.declared.outer.Entry.{Entry}
 use Rattle.wf_model.specs.Accepted.{IsAccepted}
-use Rattle.wf_model.specs.Plain.{is_plain}
+use Rattle.wf_central.specs.Plain.{is_plain}
 use Rattle.wf_model.specs.Tree.{all_states}
 use Rattle.wf_semantics.specs.Configuration.{Tree, is_in, IsConfiguration}
 use Rattle.wf_semantics.specs.Bits.{tree_of_bits}

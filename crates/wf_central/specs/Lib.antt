@@ -1,3 +1,4 @@
+pub mod Plain
 pub mod Kept
 pub mod Passes
 pub mod Made

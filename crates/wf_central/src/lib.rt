@@ -3,8 +3,10 @@
 
 mod notes;
 mod passes;
+mod plain;
 mod start;
 mod state;
 
 pub use notes::StepNotes;
+pub use plain::is_plain;
 pub use state::CentralState;

@@ -1,6 +1,6 @@
 //! The passes of a step: which transitions are ready, which are chosen, which fire, and which states are in then.
 ghost use Rattle.std.specs.Prelude.{◌≡◌, ◌<◌, ℕ, None, map, filter, length, is_some, IsTrue, IfOk, IfSome};
-ghost use Rattle.wf_model.specs.Plain.{is_plain};
+ghost use Rattle.wf_central.specs.Plain.{is_plain};
 ghost use Rattle.wf_semantics.specs.Run.{CentralState};
 ghost use Rattle.wf_central.specs.Made.{IsShown, MakesStep};
 ghost use Rattle.std.specs.List.{list_any};

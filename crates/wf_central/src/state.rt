@@ -1,6 +1,6 @@
 //! The state of a chart.
 ghost use Rattle.std.specs.Prelude.{◌≡◌, ◌+◌, ◌<◌, length, IsTrue, IfOk, OnOk, OnErr};
-ghost use Rattle.wf_model.specs.Plain.{is_plain};
+ghost use Rattle.wf_central.specs.Plain.{is_plain};
 ghost use Rattle.wf_model.specs.declared.chart.Chart.{Chart as AnyChart};
 ghost use Rattle.wf_model.specs.declared.limits.TheConstants.{MAX_STEPS};
 ghost use Rattle.wf_semantics.specs.Configuration.{is_in};

@@ -1,7 +1,7 @@
 -- What a rule reads from, and the steps that every rule is made of.
 use Rattle.std.specs.Prelude.{◌≡◌, ◌≢◌, ℕ, ◌+◌, ◌<◌, ◌≤◌, Bool, false, if◌then◌else◌, nat_le, nat_lt, List, [], ◌∷◌, ◌++◌, length, take as take_first, drop, slice_range, Option, Some, None, Result, Ok, Err}
 use lib.Chars.{codes}
-use Rattle.wf_model.specs.declared.limits.TheConstants.{MAX_NAME, MAX_NODES}
+use Rattle.wf_model.specs.declared.limits.TheConstants.{MAX_NAME, MAX_NODES, MAX_INT}
 use Rattle.wf_model.specs.declared.ids.UnitId.{UnitId}
 use Rattle.wf_model.specs.declared.ids.EventId.{EventId}
 use Rattle.wf_model.specs.declared.ids.VarId.{VarId}
@@ -21,7 +21,6 @@ use Rattle.wf_cursor.specs.declared.names.Declared.TheVariants as declared_as_a
 use Rattle.wf_cursor.specs.declared.piece.Piece.{Piece}
 use Rattle.wf_cursor.specs.declared.piece.Piece.TheVariants as pieces
 use Rattle.wf_cursor.specs.Pieces.{piece_of, same_piece}
-use Rattle.wf_cursor.specs.declared.value.TheConstants.{MAX_INT}
 use Rattle.wf_cursor.specs.Names.{declared_as}
 use Rattle.wf_cursor.specs.Values.{number_up_to, short_text}
 

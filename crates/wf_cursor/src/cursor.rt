@@ -6,11 +6,11 @@ ghost use Rattle.wf_cursor.specs.Input.{Reads, HasRoom, chart_with};
 use crate::TextFault;
 use crate::names::{Declared, Names};
 use crate::piece::{Piece, piece_of, same_piece};
-use crate::value::{MAX_INT, number_up_to, short_text};
+use crate::value::{number_up_to, short_text};
 use std::alloc::Global;
 use std::marker::Model;
 use wf_lex::Token;
-use wf_model::limits::{MAX_NAME, MAX_NODES, MAX_TOKENS};
+use wf_model::limits::{MAX_INT, MAX_NAME, MAX_NODES, MAX_TOKENS};
 use wf_model::{
     ActId, Activity, Chart, Event, EventId, List, Name, NoMemory, State, StateId, Transition, Txt,
     UnitId, VarId, Variable,

@@ -14,3 +14,4 @@ pub use fault::TextFault;
 pub use laws::names_are_not_reserved;
 pub use names::Declared;
 pub use piece::Piece;
+pub use value::{number_up_to, short_text};

@@ -5,9 +5,6 @@ ghost use Rattle.wf_cursor.specs.Values as spec;
 use wf_model::limits::MAX_TEXT;
 use wf_model::{Txt, is_text_char};
 
-/// The greatest Int of a value.
-pub const MAX_INT: u64 = 9_223_372_036_854_775_807;
-
 // The number that the digits make, or the greatest `u64` where it is greater.
 fn saturated(digits: &[u8]) -> u64
     ensures { result ≡ min (spec.number digits.now) u64.MAX }

@@ -4,6 +4,7 @@ ghost use Rattle.wf_model.specs.Values as spec;
 
 use wf_model::{Fault, Val};
 
+/// The sum, or `Overflow` where it is no `i64`.
 pub fn sum(m: i64, n: i64) -> Result<Val, Fault>
     ensures { result ≡ spec.int (m +ℤ n) }
 {
@@ -13,6 +14,7 @@ pub fn sum(m: i64, n: i64) -> Result<Val, Fault>
     }
 }
 
+/// The difference, or `Overflow` where it is no `i64`.
 pub fn difference(m: i64, n: i64) -> Result<Val, Fault>
     ensures { result ≡ spec.int (m -ℤ n) }
 {
@@ -22,6 +24,7 @@ pub fn difference(m: i64, n: i64) -> Result<Val, Fault>
     }
 }
 
+/// The product, or `Overflow` where it is no `i64`.
 pub fn product(m: i64, n: i64) -> Result<Val, Fault>
     ensures { result ≡ spec.int (m *ℤ n) }
 {
@@ -31,6 +34,7 @@ pub fn product(m: i64, n: i64) -> Result<Val, Fault>
     }
 }
 
+/// The number with the other sign, or `Overflow` where that is no `i64`.
 pub fn negation(n: i64) -> Result<Val, Fault>
     ensures { result ≡ spec.int (neg_ℤ n) }
 {
@@ -40,7 +44,7 @@ pub fn negation(n: i64) -> Result<Val, Fault>
     }
 }
 
-/// The quotient, towards zero.
+/// The quotient, towards zero: `ZeroDivisor` where `n` is 0, `Overflow` where the quotient is no `i64`.
 pub fn quotient(m: i64, n: i64) -> Result<Val, Fault>
     ensures { result ≡ spec.quotient m n }
 {
@@ -53,7 +57,7 @@ pub fn quotient(m: i64, n: i64) -> Result<Val, Fault>
     }
 }
 
-/// The remainder, with the sign of `m`.
+/// The remainder, with the sign of `m`: `ZeroDivisor` where `n` is 0, `Overflow` where the quotient is no `i64`.
 pub fn remainder(m: i64, n: i64) -> Result<Val, Fault>
     ensures { result ≡ spec.remainder m n }
 {

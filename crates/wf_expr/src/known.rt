@@ -7,7 +7,7 @@ use wf_model::{Chart, Expr};
 
 /// Whether every number in the expression is that of a variable, a state or an activity of the chart. Linear in the
 /// nodes.
-#[tactic(auto, using(wf_model::specs::declared::expr::Expr::the_lemmas, crate::specs::Laws::node_laws, crate::specs::Laws::known_laws))]
+#[tactic(auto, using(wf_model::specs::declared::expr::Expr::the_lemmas, wf_model::specs::NodesLaws::node_laws, wf_model::specs::NodesLaws::known_laws))]
 pub fn is_known_expr(e: &Expr, chart: &Chart) -> bool
     requires { spec.nodes e.now ≤ MAX_NODES }
     ensures { result ≡ spec.is_known_expr chart.now e.now }

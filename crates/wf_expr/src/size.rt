@@ -14,7 +14,7 @@ pub fn has_at_most(e: &Expr, most: usize) -> bool
 }
 
 /// How many of `most` nodes are left beside those of the expression, or none if it has more.
-#[tactic(auto, using(wf_model::specs::declared::expr::Expr::the_lemmas, crate::specs::Laws::node_laws, crate::proofs::Rooms::some_node, crate::proofs::Rooms::room_none, crate::proofs::Rooms::room_one, crate::proofs::Rooms::room_more, crate::proofs::Rooms::room_left, crate::proofs::Rooms::room_both))]
+#[tactic(auto, using(wf_model::specs::declared::expr::Expr::the_lemmas, wf_model::specs::NodesLaws::node_laws, crate::proofs::Rooms::some_node, crate::proofs::Rooms::room_none, crate::proofs::Rooms::room_one, crate::proofs::Rooms::room_more, crate::proofs::Rooms::room_left, crate::proofs::Rooms::room_both))]
 fn room(e: &Expr, most: usize) -> Option<usize>
     ensures { result ≡ spec.room most (nodes e.now) }
 {

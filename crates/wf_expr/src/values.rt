@@ -21,7 +21,7 @@ pub fn value<S: Snapshot>(e: &Expr, snap: &S) -> Result<Val, Fault>
     evaluate(e, snap)
 }
 
-#[tactic(auto, using(wf_model::specs::declared::expr::Expr::the_lemmas, wf_model::specs::ValuesLaws::value_laws, crate::specs::Laws::operand_laws))]
+#[tactic(auto, using(wf_model::specs::declared::expr::Expr::the_lemmas, wf_model::specs::ValuesLaws::value_laws, wf_model::specs::ValuesLaws::operand_laws))]
 fn evaluate<S: Snapshot>(e: &Expr, snap: &S) -> Result<Val, Fault>
     requires typed { IsOk (sort_of (var_sorts (S.seen snap.now)) e.now) }
     requires known { HasAll (S.seen snap.now) e.now }

@@ -1,7 +1,7 @@
 -- What the steps of a chart's rules answer, where the lexemes that are left are given.
 use Rattle.std.proofs.Common.{◌≡◌, ◌≢◌, ℕ, ◌+◌, ◌≤◌, Bool, true, false, nat_le, List, ◌∷◌, ◌++◌, length, map, Option, Some, None, Ok, refl, sym, ◌∙◌, ap, drop, length-append, arith}
 use Rattle.std.proofs.lemmas.List.{length-map, drop_at}
-use Rattle.wf_model.specs.declared.limits.TheConstants.{MAX_NAME}
+use Rattle.wf_model.specs.declared.limits.TheConstants.{MAX_NAME, MAX_INT}
 use Rattle.wf_model.specs.declared.ids.UnitId.{UnitId}
 use Rattle.wf_model.specs.declared.ids.EventId.{EventId}
 use Rattle.wf_model.specs.declared.ids.VarId.{VarId}
@@ -10,7 +10,6 @@ use Rattle.wf_model.specs.declared.ids.StateId.{StateId}
 use Rattle.wf_model.specs.declared.expr.Expr.{Expr}
 use Rattle.wf_model.specs.Accepted.{nodes}
 use Rattle.wf_lex.specs.declared.token.Token.{Token}
-use Rattle.wf_cursor.specs.declared.value.TheConstants.{MAX_INT}
 use Rattle.wf_cursor.specs.declared.names.Declared.{Declared}
 use Rattle.wf_cursor.specs.declared.names.Declared.TheVariants as declared_as_a
 use Rattle.wf_cursor.specs.declared.piece.Piece.{Piece}

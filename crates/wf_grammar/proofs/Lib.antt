@@ -1,4 +1,3 @@
-pub mod Counted
 pub mod Inputs
 pub mod ReadSteps
 pub mod Taking

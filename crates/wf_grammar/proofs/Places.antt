@@ -3,7 +3,7 @@ use Rattle.std.proofs.Common.{◌≡◌, ℕ, ◌+◌, ◌⊎◌, inl, inr, Bool
 use Rattle.wf_model.specs.declared.ids.UnitId.{UnitId}
 use Rattle.wf_model.specs.declared.ids.EventId.{EventId}
 use Rattle.wf_lex.specs.declared.token.Token.{Token}
-use Rattle.wf_cursor.specs.declared.value.TheConstants.{MAX_INT}
+use Rattle.wf_model.specs.declared.limits.TheConstants.{MAX_INT}
 use Rattle.wf_cursor.specs.declared.names.Declared.{Declared}
 use Rattle.wf_cursor.specs.declared.names.Declared.TheVariants as declared_as_a
 use Rattle.wf_cursor.specs.declared.piece.Piece.{Piece}

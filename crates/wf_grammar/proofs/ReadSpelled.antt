@@ -15,7 +15,7 @@ use Rattle.wf_grammar.specs.Lexemes.{Lexeme, lexeme_of, lexemes}
 use Rattle.wf_grammar.specs.Phrases as phrase
 use Rattle.wf_grammar.specs.Phrases.{Names, Rank, Is, Spells}
 use Rattle.wf_grammar.specs.Laws.{behind, ReadIsSpelled}
-use Rattle.wf_grammar.proofs.Counted.{nodes-Not, nodes-Neg}
+use Rattle.wf_model.specs.NodesLaws.{nodes-Not, nodes-Neg}
 use Rattle.wf_grammar.proofs.Inputs.{here, piece_here, piece_none, next_here, sees_piece, steps_of, pure_gives}
 use Rattle.wf_grammar.proofs.ReadSteps.{expect_then}
 use Rattle.wf_grammar.proofs.Taking.{Phrase, Took, IsSound, weaker, prefixed, stops, turn, followed, chained}

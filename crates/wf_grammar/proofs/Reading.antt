@@ -11,7 +11,7 @@ use Rattle.wf_cursor.specs.Input.{Input, Parser, and_then, ◌>>=◌, ◌>>◌, 
 use Rattle.wf_phrase.specs.Expressions.{chain_by, chain_from, chain}
 use Rattle.wf_grammar.specs.Lexemes.{Lexeme, lexeme_of}
 use Rattle.wf_grammar.specs.Laws.{first_piece}
-use Rattle.wf_grammar.proofs.Counted.{nodes-Bin}
+use Rattle.wf_model.specs.NodesLaws.{nodes-Bin}
 use Rattle.wf_grammar.proofs.Inputs.{here, piece_here, next_here}
 use Rattle.wf_grammar.proofs.SpellSteps.{node_here, piece_first, parted, headed}
 

@@ -1,12 +1,11 @@
 -- What a step answers, where the next token is what it wants.
 use Rattle.std.proofs.Common.{◌≡◌, ℕ, suc, ◌+◌, ◌<◌, ◌==◌, true, false, nat_le, List, [], ◌∷◌, length, Some, Ok, refl, ◌∙◌, ap, ap₂, map, ◌++◌, arith}
 use Rattle.std.proofs.lemmas.Bool.Decides.{nat_tests}
-use Rattle.wf_model.specs.declared.limits.TheConstants.{MAX_NAME, MAX_NODES}
+use Rattle.wf_model.specs.declared.limits.TheConstants.{MAX_NAME, MAX_NODES, MAX_INT}
 use Rattle.wf_model.specs.declared.ids.VarId.{VarId}
 use Rattle.wf_model.specs.declared.ids.StateId.{StateId}
 use Rattle.wf_model.specs.declared.ids.ActId.{ActId}
 use Rattle.wf_lex.specs.declared.token.Token.{Token}
-use Rattle.wf_cursor.specs.declared.value.TheConstants.{MAX_INT}
 use Rattle.wf_cursor.specs.declared.names.Declared.{Declared}
 use Rattle.wf_cursor.specs.declared.names.Declared.TheVariants as declared_as_a
 use Rattle.wf_cursor.specs.declared.piece.Piece.{Piece}

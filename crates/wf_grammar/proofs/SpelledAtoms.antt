@@ -1,6 +1,6 @@
 -- What is spelled as an atom is read.
 use Rattle.std.proofs.Common.{◌≡◌, ℕ, suc, ◌+◌, ◌<◌, Bool, true, false, List, [], ◌∷◌, Some, Ok, refl, sym, ◌∙◌, ap, ap₂, subst, arith}
-use Rattle.wf_model.specs.declared.limits.TheConstants.{MAX_NODES}
+use Rattle.wf_model.specs.declared.limits.TheConstants.{MAX_NODES, MAX_INT}
 use Rattle.wf_model.specs.declared.ids.VarId.{VarId}
 use Rattle.wf_model.specs.declared.ids.StateId.{StateId}
 use Rattle.wf_model.specs.declared.ids.ActId.{ActId}
@@ -8,7 +8,6 @@ use Rattle.wf_model.specs.declared.expr.Expr.{Expr}
 use Rattle.wf_model.specs.declared.expr.Expr.TheVariants as e
 use Rattle.wf_model.specs.Accepted.{nodes}
 use Rattle.wf_lex.specs.declared.token.Token.{Token}
-use Rattle.wf_cursor.specs.declared.value.TheConstants.{MAX_INT}
 use Rattle.wf_cursor.specs.declared.names.Declared.TheVariants as declared_as_a
 use Rattle.wf_cursor.specs.declared.piece.Piece.TheVariants as pieces
 use Rattle.wf_cursor.specs.Values.{number_up_to, short_text}

@@ -18,7 +18,7 @@ use Rattle.wf_grammar.specs.Lexemes.{Lexeme, lexeme_of}
 use Rattle.wf_grammar.specs.Phrases as phrase
 use Rattle.wf_grammar.specs.Phrases.{Rank, Is, Spells}
 use Rattle.wf_grammar.specs.Laws.{first_piece, IsNoOperator, SpelledIsRead}
-use Rattle.wf_grammar.proofs.Counted.{nodes-Not, nodes-Neg, nodes-Bin}
+use Rattle.wf_model.specs.NodesLaws.{nodes-Not, nodes-Neg, nodes-Bin}
 use Rattle.wf_grammar.proofs.Inputs.{here, piece_here, next_here, sees_piece}
 use Rattle.wf_grammar.proofs.SpellSteps.{sees_here, expect_here, piece_first, parted, headed, emptied}
 use Rattle.wf_grammar.proofs.Tables.{or_found, and_found, comparison_found, sum_found, product_found}

@@ -11,7 +11,7 @@ use Rattle.wf_cursor.specs.declared.piece.Piece.{Piece}
 use Rattle.wf_cursor.specs.Input.{Input, Parser, and_then, ◌>>=◌, ◌>>◌, pure, take, piece, node}
 use Rattle.wf_phrase.specs.Expressions.{chain_by, chain_from, chain}
 use Rattle.wf_grammar.specs.Lexemes.{Lexeme, lexeme_of}
-use Rattle.wf_grammar.proofs.Counted.{nodes-Bin}
+use Rattle.wf_model.specs.NodesLaws.{nodes-Bin}
 use Rattle.wf_grammar.proofs.Inputs.{here, piece_here, piece_none, next_here, steps_of, pure_gives}
 use Rattle.wf_grammar.proofs.ReadSteps.{node_then}
 

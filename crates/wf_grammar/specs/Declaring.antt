@@ -6,7 +6,7 @@ use Rattle.wf_model.specs.declared.value.Sort.{Sort}
 use Rattle.wf_model.specs.declared.value.Sort.TheVariants as sorts
 use Rattle.wf_model.specs.declared.value.Val.{Val}
 use Rattle.wf_model.specs.declared.value.Val.TheVariants as v
-use Rattle.wf_cursor.specs.declared.value.TheConstants.{MAX_INT}
+use Rattle.wf_model.specs.declared.limits.TheConstants.{MAX_INT}
 use Rattle.wf_cursor.specs.declared.names.Declared.TheVariants as declared_as_a
 use Rattle.wf_cursor.specs.declared.piece.Piece.{Piece}
 use Rattle.wf_cursor.specs.declared.piece.Piece.TheVariants as pieces

@@ -10,4 +10,4 @@ pub mod Seen
 pub mod Values
 pub mod ValuesLaws
 pub mod Accepted
-pub mod Plain
+pub mod NodesLaws

@@ -66,3 +66,6 @@ typed-Bin vars op x y h =
 
 -- all three values
 pub ruleset value_laws = (value_of-Not, value_of-Neg, value_of-Bin)
+
+-- what an operand has, of an expression that has a sort, and all of whose numbers a snapshot has
+pub ruleset operand_laws = (typed-Not, typed-Neg, typed-Bin, HasAll-Not, HasAll-Neg, HasAll-Bin)

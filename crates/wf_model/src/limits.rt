@@ -45,8 +45,14 @@ pub const MAX_TOKENS: usize = 1_048_576;
 /// Braces, and parentheses of an expression, that are open at once.
 pub const MAX_OPEN: usize = 64;
 
-/// Lines of a script that a plain run takes, blank ones among them.
-pub const MAX_PLAIN_LINES: usize = 2_000;
+/// The greatest integer of a value.
+pub const MAX_INT: u64 = 9_223_372_036_854_775_807;
+
+/// Lines of a script, blank ones among them.
+pub const MAX_LINES: usize = 20_000;
+
+/// Bytes of a text that is written: 256 MiB.
+pub const MAX_REPORT: usize = 268_435_456;
 
 /// Steps of a run.
 pub const MAX_STEPS: u32 = 20_000;

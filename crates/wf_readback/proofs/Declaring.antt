@@ -3,7 +3,7 @@ use Rattle.std.proofs.Common.{◌≡◌, ℕ, suc, ◌+◌, ◌^◌, ◌<◌, �
 use Rattle.std.specs.Fmt.{decimal}
 use Rattle.std.proofs.lemmas.Bool.Decides.{nat_tests}
 use lib.Chars.{codes}
-use Rattle.wf_model.specs.declared.limits.TheConstants.{MAX_NAME, MAX_TEXT}
+use Rattle.wf_model.specs.declared.limits.TheConstants.{MAX_NAME, MAX_TEXT, MAX_INT}
 use Rattle.wf_model.specs.declared.ids.UnitId.{UnitId}
 use Rattle.wf_model.specs.declared.ids.EventId.{EventId}
 use Rattle.wf_model.specs.declared.ids.VarId.{VarId}
@@ -18,7 +18,6 @@ use Rattle.wf_model.specs.declared.value.Val.TheVariants as v
 use Rattle.wf_model.specs.Txt.{is_text}
 use Rattle.wf_lex.specs.declared.token.Token.{Token}
 use Rattle.wf_lex.specs.declared.token.TokenKind.TheVariants as kinds
-use Rattle.wf_cursor.specs.declared.value.TheConstants.{MAX_INT}
 use Rattle.wf_cursor.specs.declared.names.Declared.{Declared}
 use Rattle.wf_cursor.specs.declared.piece.Piece.TheVariants as pieces
 use Rattle.wf_cursor.specs.Pieces.{piece_of, word_piece, state_word, moving_word, value_word, sort_word, sign_piece, comparing_sign, reckoning_sign}

@@ -1,5 +1,5 @@
 -- The admission rule: which outers a unit may admit.
-use Rattle.std.specs.Prelude.{ℕ, ◌==◌, ◌&&◌, ◌||◌, not, Bool, true, false, List, [], ◌∷◌, Option, Some, None, Result, Ok, Err, slice_get, if◌then◌else◌}
+use Rattle.std.specs.Prelude.{ℕ, ◌==◌, ◌&&◌, ◌||◌, ◌++◌, not, Bool, true, false, List, [], ◌∷◌, Option, Some, None, Result, Ok, Err, is_ok, slice_get, if◌then◌else◌}
 use Rattle.std.specs.Option.{option_map_or}
 use Rattle.std.specs.List.{list_any}
 use Rattle.wf_model.specs.declared.ids.VarId.{VarId}
@@ -60,3 +60,12 @@ may_be_admitted chart c pending u (Complete n a outputs) =
     else if is_closed (item_at (c.items u) n) || is_pending pending u n then Err AlreadyDone
     else if not (are_outputs_of chart a.0 outputs) then Err WrongOutput
     else Ok tt
+
+-- each of these entries may be admitted, where those before it are pending and so are the given ones
+abbrev pub may_come_after : Chart → CentralState → List Entry → List Entry → Bool
+may_come_after chart c pending [] = true
+may_come_after chart c pending (x ∷ xs) = is_ok (may_be_admitted chart c pending x.unit.0 x.outer) && may_come_after chart c (pending ++ x ∷ []) xs
+
+-- the entries may come in the next step
+abbrev pub may_come : Chart → CentralState → List Entry → Bool
+may_come chart c entries = may_come_after chart c [] entries

@@ -4,6 +4,7 @@ pub mod Walk
 pub mod Snapshot
 pub mod Items
 pub mod Effects
+pub mod Shown
 pub mod Run
 pub mod Admission
 pub mod Bits

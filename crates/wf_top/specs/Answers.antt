@@ -4,11 +4,11 @@ use Rattle.std.specs.Str.{bytes_eq}
 use Rattle.std.specs.Option.{option_map, option_and_then}
 use Rattle.std.specs.Result.{result_ok}
 use lib.Chars.{codes}
-use Rattle.wf_model.specs.declared.limits.TheConstants.{MAX_INPUT, MAX_PLAIN_LINES}
+use Rattle.wf_model.specs.declared.limits.TheConstants.{MAX_INPUT}
 use Rattle.wf_model.specs.declared.chart.Chart.{Chart}
 use Rattle.wf_model.specs.declared.status.Status.{Status}
 use Rattle.wf_model.specs.declared.status.Status.TheVariants as status
-use Rattle.wf_model.specs.Plain.{is_plain}
+use Rattle.wf_central.specs.Plain.{is_plain}
 use Rattle.wf_text.specs.declared.chart_fault.ChartFault.{ChartFault}
 use Rattle.wf_text.specs.Text.{chart_of}
 use Rattle.wf_check.specs.declared.fault.CheckFault.{CheckFault}
@@ -21,6 +21,7 @@ use Rattle.wf_audit.specs.declared.script.CentralLine.{CentralLine}
 use Rattle.wf_audit.specs.Lines.{chart_part, script_part}
 use Rattle.wf_audit.specs.Script.{script_of}
 use Rattle.wf_audit.specs.CentralText.{central_text}
+use Rattle.wf_audit.specs.declared.central.TheConstants.{MAX_PLAIN_LINES}
 use Rattle.wf_top.specs.declared.command.Command.{Command}
 use Rattle.wf_top.specs.declared.command.Command.TheVariants.{Check, Central}
 use Rattle.wf_top.specs.declared.answer.Answer.{Answer}

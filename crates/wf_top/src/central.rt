@@ -1,14 +1,14 @@
 //! The command `central`.
 ghost use Rattle.std.specs.Prelude.{◌≡◌, ◌≤◌, length, IsTrue, IfOk};
 ghost use Rattle.std.specs.Option.{option_map};
-ghost use Rattle.wf_model.specs.Plain.{is_plain};
+ghost use Rattle.wf_central.specs.Plain.{is_plain};
 ghost use Rattle.wf_audit.specs.CentralText.{central_text};
 ghost use Rattle.wf_top.specs.Answers as spec;
 
 use std::alloc::Global;
-use wf_audit::{CentralLine, ScriptFault, read_central, run_central};
-use wf_check::is_plain;
-use wf_model::limits::{MAX_INPUT, MAX_PLAIN_LINES};
+use wf_audit::{CentralLine, MAX_PLAIN_LINES, ScriptFault, read_central, run_central};
+use wf_central::is_plain;
+use wf_model::limits::MAX_INPUT;
 use wf_model::{Bytes, Checked, List, NoMemory};
 
 // The lines of the script, where all are in the grammar and there are few enough.

@@ -5,7 +5,6 @@ use Rattle.wf_model.specs.declared.expr.Op.{Op}
 use Rattle.wf_model.specs.declared.expr.Expr.{Expr}
 use Rattle.wf_model.specs.declared.expr.Expr.TheVariants.{Not, Neg, Bin}
 use Rattle.wf_model.specs.Accepted.{nodes, is_known_expr}
-use Rattle.wf_model.specs.ValuesLaws.{typed-Not, typed-Neg, typed-Bin, HasAll-Not, HasAll-Neg, HasAll-Bin}
 
 pub nodes-Not : (x : Expr) → nodes (Not x) ≡ nodes x + 1
 unfolding Rattle.wf_model.specs.declared.expr.Expr.TheBlock.hidden-the_row-Expr-0 denote.Hole.Carrier.hidden
@@ -19,7 +18,7 @@ pub nodes-Bin : (op : Op) (x y : Expr) → nodes (Bin op x y) ≡ nodes x + node
 unfolding Rattle.wf_model.specs.declared.expr.Expr.TheBlock.hidden-the_row-Expr-0 denote.Hole.Carrier.hidden
 nodes-Bin op x y = refl
 
--- all three sizes
+-- how many nodes, by all three
 pub ruleset node_laws = (nodes-Not, nodes-Neg, nodes-Bin)
 
 pub known-Not : (c : Chart) (x : Expr) → is_known_expr c (Not x) ≡ is_known_expr c x
@@ -36,6 +35,3 @@ known-Bin c op x y = refl
 
 -- whether numbers are known, by all three
 pub ruleset known_laws = (known-Not, known-Neg, known-Bin)
-
--- what an operand has, of an expression that has a sort, and all of whose numbers a snapshot has
-pub ruleset operand_laws = (typed-Not, typed-Neg, typed-Bin, HasAll-Not, HasAll-Neg, HasAll-Bin)

@@ -1,7 +1,7 @@
 //! Whether a chart is plain.
 ghost use Rattle.std.specs.Prelude.{◌≡◌};
 ghost use Rattle.std.specs.List.{list_all};
-ghost use Rattle.wf_model.specs.Plain as spec;
+ghost use Rattle.wf_central.specs.Plain as spec;
 
 use wf_model::{Chart, Transition};
 

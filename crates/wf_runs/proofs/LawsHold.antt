@@ -1,8 +1,10 @@
 -- The laws, of each chart and each list of steps.
-use Rattle.wf_runs.specs.Laws.{ItemsAreStarts, StartsGoOn, StartsAreInOrder, NumbersGoOn, ClosedForGood, ClosedIsCompleted, CountsOpenStarts, StepGoesBySight, NoSecondCompletion, CompletedOnce}
+use Rattle.wf_semantics.specs.Run.{central_run, fired_in}
+use Rattle.wf_runs.specs.Laws.{ItemsAreStarts, StartsGoOn, StartsKeepNumbers, StartsAreInOrder, NumbersGoOn, StartsHaveUnits, ClosedForGood, ClosedIsCompleted, CountsOpenStarts, StepGoesBySight, NoSecondCompletion, CompletedOnce}
 use Rattle.wf_runs.proofs.Closing as closing
 use Rattle.wf_runs.proofs.Completed as completed
 use Rattle.wf_runs.proofs.Numbers as numbers
+use Rattle.wf_runs.proofs.Units as units
 use Rattle.wf_runs.proofs.Order as order
 use Rattle.wf_runs.proofs.Counting as counting
 use Rattle.wf_runs.proofs.Sight as sight
@@ -13,11 +15,17 @@ items_are_starts chart u steps = (numbers.as_many chart u steps, numbers.same_ac
 pub starts_go_on : StartsGoOn
 starts_go_on = numbers.starts_go_on
 
+pub starts_keep_numbers : StartsKeepNumbers
+starts_keep_numbers = numbers.starts_keep_numbers
+
 pub starts_are_in_order : StartsAreInOrder
 starts_are_in_order chart u steps m n s t es et = (order.starts_in_order chart u steps m n s t es et, order.one_number chart u steps m n s t es et)
 
 pub numbers_go_on : NumbersGoOn
-numbers_go_on = numbers.numbers_go_on
+numbers_go_on chart steps entries = (numbers.tells_starts chart (central_run chart steps) entries, (λ u. numbers.numbers_go_on chart u steps entries))
+
+pub starts_have_units : StartsHaveUnits
+starts_have_units chart c entries ok = units.starts_have_units chart ok (fired_in chart c entries)
 
 pub closed_for_good : ClosedForGood
 closed_for_good = closing.closed_for_good

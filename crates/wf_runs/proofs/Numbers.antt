@@ -100,6 +100,20 @@ module _ (chart : Chart) where
         ∙ ap (λ (l : List StartIn). all_starts chart u steps ++ l) (append-nil (map (in_step ((central_run chart steps).taken + 1)) (starts_at chart u (central_run chart steps) entries)))
         ∙ ap (λ (m : ℕ). all_starts chart u steps ++ map (in_step m) (starts_at chart u (central_run chart steps) entries)) k
 
+    front_at : (xs ys : List StartIn) (n : ℕ) (s : StartIn) → start_at xs n ≡ Some s → start_at (xs ++ ys) n ≡ Some s
+    front_at xs ys zero s e = e
+    front_at [] ys (suc n) s e = absurd (none e)
+      where
+        none : None ≡ Some s → ⊥
+        none q = cc
+    front_at (x ∷ xs) ys (suc zero) s e = e
+    front_at (x ∷ xs) ys (suc (suc n)) s e = front_at xs ys (suc n) s e
+
+    pub starts_keep_numbers : (steps more : List (List Entry)) (n : ℕ) (s : StartIn) → start_at (all_starts chart u steps) n ≡ Some s → start_at (all_starts chart u (steps ++ more)) n ≡ Some s
+    starts_keep_numbers steps more n s e =
+        ap (λ (l : List StartIn). start_at l n) (starts_in_parts (first_state chart) steps more)
+        ∙ front_at (all_starts chart u steps) (starts_along chart u (central_run chart steps) more) n s e
+
     number_of : (before : ℕ → ℕ) (o : Option ℕ) → option_map_or (λ v. v == u) o false ≡ true → option_map_or before o 0 ≡ before u
     number_of before None h = absurd (true≢false (sym h))
     number_of before (Some v) h = ap before (eqb-true v u h)
@@ -135,3 +149,12 @@ module _ (chart : Chart) where
     numbers_go_on steps entries =
         numbered_at (λ v. length ((central_run chart steps).items v)) (starts_of chart (fired_in chart (central_run chart steps) entries))
         ∙ ap (λ (k : ℕ). zip (map (λ s. s.act) (starts_at chart u (central_run chart steps) entries)) (range_with_len (k + 1) (length (starts_at chart u (central_run chart steps) entries)))) (as_many steps)
+
+  numbered_acts : (before : ℕ → ℕ) (starts : List StartAt) → map (λ s. s.0) (numbered chart before starts) ≡ map (λ s. s.act) starts
+  numbered_acts before [] = refl
+  numbered_acts before (s ∷ starts) = ap (λ (l : List ActId). s.act ∷ l) (numbered_acts (λ v. cond (is_at chart v s) (before v + 1) (before v)) starts)
+
+  -- a step tells its starts in order
+  pub tells_starts : (c : CentralState) (entries : List Entry) → map (λ s. s.0) (started_in chart c entries) ≡ map (λ s. s.act) (starts_of chart (fired_in chart c entries))
+  unfolding started_in
+  tells_starts c entries = numbered_acts (λ v. length (c.items v)) (starts_of chart (fired_in chart c entries))

@@ -1,15 +1,16 @@
 -- Laws of the central run, for every chart and every list of steps.
-use Rattle.std.specs.Prelude.{ℕ, ◌≡◌, ◌<◌, ◌≤◌, ◌+◌, ◌++◌, ◌||◌, Bool, true, false, List, [], ◌∷◌, length, map, Option, Some, is_ok}
+use Rattle.std.specs.Prelude.{ℕ, ◌≡◌, ◌<◌, ◌≤◌, ◌+◌, ◌++◌, ◌||◌, nat_lt, Bool, true, false, List, [], ◌∷◌, length, map, Option, Some, is_ok}
 use Rattle.std.specs.Option.{option_map, option_map_or}
-use Rattle.std.specs.List.{range_with_len, zip}
+use Rattle.std.specs.List.{range_with_len, zip, list_all}
 use Rattle.wf_model.specs.declared.ids.ActId.{ActId}
 use Rattle.wf_model.specs.declared.chart.Chart.{Chart}
 use Rattle.wf_model.specs.declared.outer.Output.{Output}
 use Rattle.wf_model.specs.declared.outer.Outer.TheVariants.{Complete}
 use Rattle.wf_model.specs.declared.outer.Entry.{Entry}
+use Rattle.wf_model.specs.Accepted.{IsAccepted}
 use Rattle.wf_semantics.specs.Effects.{starts_of}
 use Rattle.wf_semantics.specs.Items.{item_at}
-use Rattle.wf_semantics.specs.Run.{CentralState, act_unit, snapshot_of, fired_in, next_state, after_steps, central_run}
+use Rattle.wf_semantics.specs.Run.{CentralState, act_unit, snapshot_of, fired_in, started_in, next_state, after_steps, central_run}
 use Rattle.wf_semantics.specs.Admission.{is_closed, is_pending, may_be_admitted, may_come}
 use Rattle.wf_runs.specs.Runs.{IsRun}
 use Rattle.wf_runs.specs.Starts.{StartIn, in_step, starts_at, all_starts, start_at, is_before, started_at}
@@ -23,11 +24,17 @@ ItemsAreStarts =
     (length ((central_run chart steps).items u) ≡ length (all_starts chart u steps))
     × ((n : ℕ) → option_map (λ x. x.act) (item_at ((central_run chart steps).items u) n) ≡ option_map (λ s. s.start.act) (start_at (all_starts chart u steps) n))
 
--- a step's starts come behind those of the steps before, so each start keeps its number
+-- a step's starts come behind those of the steps before
 abbrev pub StartsGoOn : Type 0
 StartsGoOn =
     (chart : Chart) (u : ℕ) (steps : List (List Entry)) (entries : List Entry) →
     all_starts chart u (steps ++ entries ∷ []) ≡ all_starts chart u steps ++ map (in_step (length steps + 1)) (starts_at chart u (central_run chart steps) entries)
+
+-- a start keeps its number, whatever steps come
+abbrev pub StartsKeepNumbers : Type 0
+StartsKeepNumbers =
+    (chart : Chart) (u : ℕ) (steps more : List (List Entry)) (n : ℕ) (s : StartIn) →
+    start_at (all_starts chart u steps) n ≡ Some s → start_at (all_starts chart u (steps ++ more)) n ≡ Some s
 
 -- starts count in order of step, transition and place, and two numbers have two starts
 abbrev pub StartsAreInOrder : Type 0
@@ -36,13 +43,20 @@ StartsAreInOrder =
     start_at (all_starts chart u steps) m ≡ Some s → start_at (all_starts chart u steps) n ≡ Some t →
     (m < n → is_before s t ≡ true) × (s ≡ t → m ≡ n)
 
--- a step starts at a unit what its starts say, in order, with the next numbers
+-- a step tells all its starts in order, and at each unit with the next numbers there
 abbrev pub NumbersGoOn : Type 0
 NumbersGoOn =
-    (chart : Chart) (u : ℕ) (steps : List (List Entry)) (entries : List Entry) →
-    started_at chart u (central_run chart steps) entries
+    (chart : Chart) (steps : List (List Entry)) (entries : List Entry) →
+    (map (λ s. s.0) (started_in chart (central_run chart steps) entries) ≡ map (λ s. s.act) (starts_of chart (fired_in chart (central_run chart steps) entries)))
+    × ((u : ℕ) → started_at chart u (central_run chart steps) entries
     ≡ zip (map (λ s. s.act) (starts_at chart u (central_run chart steps) entries))
-    (range_with_len (length (all_starts chart u steps) + 1) (length (starts_at chart u (central_run chart steps) entries)))
+    (range_with_len (length (all_starts chart u steps) + 1) (length (starts_at chart u (central_run chart steps) entries))))
+
+-- what a step of an accepted chart starts is of an activity at a unit of the chart
+abbrev pub StartsHaveUnits : Type 0
+StartsHaveUnits =
+    (chart : Chart) (c : CentralState) (entries : List Entry) → IsAccepted chart →
+    list_all (λ s. option_map_or (λ u. nat_lt u (length chart.units)) (act_unit chart s.act.0) false) (starts_of chart (fired_in chart c entries)) ≡ true
 
 -- a closed item stays closed, whatever steps come
 abbrev pub ClosedForGood : Type 0

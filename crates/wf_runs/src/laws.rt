@@ -1,15 +1,20 @@
 //! Laws of the central run, for every chart and every list of steps. A run is a list of steps in which the entries of each
 //! step may come in the state that the steps before lead to.
-ghost use Rattle.wf_runs.specs.Laws.{ItemsAreStarts, StartsGoOn, StartsAreInOrder, NumbersGoOn, ClosedForGood, ClosedIsCompleted, CountsOpenStarts, StepGoesBySight, NoSecondCompletion, CompletedOnce};
+ghost use Rattle.wf_runs.specs.Laws.{ItemsAreStarts, StartsGoOn, StartsKeepNumbers, StartsAreInOrder, NumbersGoOn, StartsHaveUnits, ClosedForGood, ClosedIsCompleted, CountsOpenStarts, StepGoesBySight, NoSecondCompletion, CompletedOnce};
 
 /// A unit has one item for each start of its activities so far, and the item with number n is of the activity of the n-th.
 pub fn items_are_starts()
     ensures { ItemsAreStarts }
 {}
 
-/// The starts of a step come behind those of the steps before, so a start keeps its number.
+/// The starts of a step come behind those of the steps before.
 pub fn starts_go_on()
     ensures { StartsGoOn }
+{}
+
+/// A start keeps its number, whatever steps come.
+pub fn starts_keep_numbers()
+    ensures { StartsKeepNumbers }
 {}
 
 /// The starts of a unit count in order of step, transition and place, and two numbers never have the same start.
@@ -17,10 +22,15 @@ pub fn starts_are_in_order()
     ensures { StartsAreInOrder }
 {}
 
-/// What a step tells of its starts at a unit are these starts in order, with the numbers that follow the last one that was
+/// A step tells the activities of all its starts in order, those at a unit with the numbers that follow the last one that was
 /// given there.
 pub fn numbers_go_on()
     ensures { NumbersGoOn }
+{}
+
+/// What a step of an accepted chart starts is of an activity at a unit of the chart.
+pub fn starts_have_units()
+    ensures { StartsHaveUnits }
 {}
 
 /// An item that is closed stays closed, whatever steps come.

@@ -6,5 +6,6 @@ mod laws;
 
 pub use laws::{
     closed_for_good, closed_is_completed, completed_once, counts_open_starts, items_are_starts,
-    no_second_completion, numbers_go_on, starts_are_in_order, starts_go_on, step_goes_by_sight,
+    no_second_completion, numbers_go_on, starts_are_in_order, starts_go_on, starts_have_units,
+    starts_keep_numbers, step_goes_by_sight,
 };

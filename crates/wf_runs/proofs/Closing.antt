@@ -1,19 +1,17 @@
 -- Which items a step closes.
-use Rattle.std.proofs.Common.{◌≡◌, ℕ, zero, suc, ◌==◌, ◌&&◌, ◌||◌, ◌++◌, not, cond, Bool, true, false, List, [], ◌∷◌, Option, Some, None, map, filter, refl, sym, ◌∙◌, ap, ap₂, eqb-true, eq-eqb, true≢false}
-use Rattle.std.specs.Prelude.{is_ok, Result, Ok, Err, flat_map}
+use Rattle.std.proofs.Common.{◌≡◌, ℕ, zero, suc, ◌==◌, ◌&&◌, ◌||◌, ◌++◌, cond, Bool, true, false, List, [], ◌∷◌, Option, Some, None, map, filter, refl, sym, ◌∙◌, ap, ap₂, eqb-true, eq-eqb}
+use Rattle.std.specs.Prelude.{flat_map}
 use Rattle.std.specs.List.{slice_get, list_any}
 use Rattle.std.specs.Option.{option_map, is_some}
-use Rattle.wf_model.specs.declared.ids.ActId.{ActId}
 use Rattle.wf_model.specs.declared.chart.Chart.{Chart}
-use Rattle.wf_model.specs.declared.outer.Output.{Output}
 use Rattle.wf_model.specs.declared.outer.Outer.{Outer}
 use Rattle.wf_model.specs.declared.outer.Outer.TheVariants.{Happen, Complete}
 use Rattle.wf_model.specs.declared.outer.Entry.{Entry}
 use Rattle.wf_model.specs.declared.update.StartAt.{StartAt}
 use Rattle.wf_semantics.specs.Effects.{starts_of}
 use Rattle.wf_semantics.specs.Items.{Item, Completion, new_item, item_at, close, close_all}
-use Rattle.wf_semantics.specs.Run.{CentralState, next_state, after_steps, fired_in, is_at, items_closed, new_items, completions_of, completions_at}
-use Rattle.wf_semantics.specs.Admission.{is_of, is_closed, completes, is_pending}
+use Rattle.wf_semantics.specs.Run.{CentralState, next_state, after_steps, fired_in, is_at, items_closed, completions_of, completions_at}
+use Rattle.wf_semantics.specs.Admission.{is_closed, completes, is_pending}
 use Rattle.wf_semantics.proofs.Bools.{or_left}
 use Rattle.wf_activities.specs.Laws.{closed_item}
 use Rattle.wf_activities.proofs.LawsHold.{closes_one}

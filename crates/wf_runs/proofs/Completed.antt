@@ -1,7 +1,6 @@
 -- What a run completes, once at most.
-use Rattle.std.proofs.Common.{◌≡◌, ℕ, zero, suc, ◌+◌, ◌≤◌, ◌==◌, ◌&&◌, ◌||◌, ◌++◌, not, cond, Bool, true, false, List, [], ◌∷◌, Option, Some, None, length, filter, refl, sym, ◌∙◌, ap, ap₂, subst, inl, inr, arith, eqb-true, true≢false, length-append}
-use Rattle.std.specs.Prelude.{is_ok, Result, Ok, Err, flat_map}
-use Rattle.std.specs.List.{list_any}
+use Rattle.std.proofs.Common.{◌≡◌, ℕ, zero, suc, ◌+◌, ◌≤◌, ◌==◌, ◌&&◌, ◌||◌, ◌++◌, not, cond, Bool, true, false, List, [], ◌∷◌, Option, Some, None, length, refl, sym, ◌∙◌, ap, ap₂, subst, inl, inr, arith, eqb-true, true≢false, length-append}
+use Rattle.std.specs.Prelude.{is_ok, Result, Ok, Err}
 use Rattle.std.specs.Option.{is_some}
 use Rattle.std.proofs.lemmas.List.Elements.{filter-append}
 use Rattle.std.proofs.lemmas.List.Folds.{list_any-append}

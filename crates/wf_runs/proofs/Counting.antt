@@ -1,5 +1,5 @@
 -- The count that a step sees, by the numbers of items.
-use Rattle.std.proofs.Common.{◌≡◌, ℕ, zero, suc, ◌+◌, ◌==◌, ◌&&◌, ◌||◌, not, cond, Bool, true, false, List, [], ◌∷◌, Option, Some, None, length, map, filter, refl, sym, ◌∙◌, ap, ap₂, arith}
+use Rattle.std.proofs.Common.{◌≡◌, ℕ, suc, ◌+◌, ◌==◌, ◌&&◌, ◌||◌, not, cond, Bool, true, false, List, [], ◌∷◌, Option, Some, None, length, filter, refl, sym, ◌∙◌, ap, ap₂, arith}
 use Rattle.std.specs.List.{slice_get, range_with_len}
 use Rattle.std.specs.Option.{option_map, option_map_or}
 use Rattle.std.proofs.lemmas.List.{length-map}
@@ -7,8 +7,8 @@ use Rattle.std.proofs.lemmas.Option.{slice_get-map}
 use Rattle.wf_model.specs.declared.ids.ActId.{ActId}
 use Rattle.wf_model.specs.declared.chart.Chart.{Chart}
 use Rattle.wf_model.specs.declared.outer.Entry.{Entry}
-use Rattle.wf_semantics.specs.Items.{Item, item_at, open_count}
-use Rattle.wf_semantics.specs.Run.{CentralState, central_run, act_unit, items_closed, completions_at, snapshot_of}
+use Rattle.wf_semantics.specs.Items.{Item, open_count}
+use Rattle.wf_semantics.specs.Run.{central_run, act_unit, items_closed, completions_at, snapshot_of}
 use Rattle.wf_semantics.specs.Admission.{is_closed, is_pending, may_come}
 use Rattle.wf_activities.proofs.LawsHold.{counts_open_items}
 use Rattle.wf_runs.specs.Runs.{IsRun}

@@ -1,3 +1,4 @@
+mod WorkedRun
 pub mod Parts
 pub mod Closing
 pub mod Completed

@@ -1,5 +1,5 @@
 -- The starts of a unit stand in order of step, transition and place.
-use Rattle.std.proofs.Common.{◌≡◌, ℕ, zero, suc, ◌+◌, ◌<◌, ◌≤◌, ◌==◌, ◌&&◌, ◌||◌, ◌++◌, nat_lt, cond, Bool, true, false, List, [], ◌∷◌, Option, Some, None, length, map, filter, refl, sym, ◌∙◌, ap, subst, inl, inr, arith, eq-eqb, true≢false, ltb-true}
+use Rattle.std.proofs.Common.{◌≡◌, ℕ, zero, suc, ◌+◌, ◌<◌, ◌≤◌, ◌==◌, ◌&&◌, ◌++◌, nat_lt, cond, Bool, true, false, List, [], ◌∷◌, Some, None, length, map, filter, refl, sym, subst, inl, inr, arith, eq-eqb, ltb-true}
 use Rattle.std.specs.Bool.{⊤}
 use Rattle.std.specs.Prelude.{flat_map}
 use Rattle.std.specs.List.{slice_get, range_with_len}
@@ -9,7 +9,7 @@ use Rattle.wf_model.specs.declared.chart.Action.TheVariants.{Assign, Raise, Star
 use Rattle.wf_model.specs.declared.chart.Chart.{Chart}
 use Rattle.wf_model.specs.declared.outer.Entry.{Entry}
 use Rattle.wf_model.specs.declared.update.StartAt.{StartAt}
-use Rattle.wf_model.specs.Tree.{all_transitions, is_among}
+use Rattle.wf_model.specs.Tree.{is_among}
 use Rattle.wf_semantics.specs.Effects.{actions_of, starts_from, starts_of}
 use Rattle.wf_semantics.specs.Walk.{fired, first_of_scope}
 use Rattle.wf_semantics.specs.Snapshot.{is_enabled}
@@ -113,11 +113,10 @@ actions_ordered : (t place : ℕ) (actions : List Action) → AreOrdered is_earl
 actions_ordered t place [] = tt
 actions_ordered t place (Assign x value ∷ rest) = actions_ordered t (place + 1) rest
 actions_ordered t place (Raise e ∷ rest) = actions_ordered t (place + 1) rest
-actions_ordered t place (Start a ∷ rest) =
-    (
-      each_imp (IsFrom t (place + 1)) (λ s. is_earlier first s ≡ true) (λ s h. place_is_earlier first s (sym h.0) (omega (arith, h.1))) (starts_from t (place + 1) rest) (own_places t (place + 1) rest),
-      actions_ordered t (place + 1) rest,
-    )
+actions_ordered t place (Start a ∷ rest) = (
+  each_imp (IsFrom t (place + 1)) (λ s. is_earlier first s ≡ true) (λ s h. place_is_earlier first s (sym h.0) (omega (arith, h.1))) (starts_from t (place + 1) rest) (own_places t (place + 1) rest),
+  actions_ordered t (place + 1) rest,
+)
   where
     first : StartAt
     first = record { act = a; trans = record { 0 = t }; place = place }

@@ -1,13 +1,12 @@
 -- Two states that see the same do the same.
-use Rattle.std.proofs.Common.{◌≡◌, ℕ, List, Some, ap, ap₂}
+use Rattle.std.proofs.Common.{◌≡◌, List, Some, ap, ap₂}
 use Rattle.std.specs.Prelude.{slice_get}
 use Rattle.wf_model.specs.declared.chart.Chart.{Chart}
-use Rattle.wf_model.specs.declared.value.Val.{Val}
 use Rattle.wf_model.specs.declared.outer.Entry.{Entry}
 use Rattle.wf_semantics.specs.Configuration.{Tree, is_in}
 use Rattle.wf_semantics.specs.Walk.{fired_of, new_tree}
 use Rattle.wf_semantics.specs.Snapshot.{Snapshot, is_enabled}
-use Rattle.wf_semantics.specs.Effects.{after_entries, after_fired, raised_by, starts_of}
+use Rattle.wf_semantics.specs.Effects.{after_fired, raised_by, starts_of}
 use Rattle.wf_semantics.specs.Run.{CentralState, next_state, snapshot_of, fired_in}
 use Rattle.wf_runs.specs.Sight.{SeeAlike}
 

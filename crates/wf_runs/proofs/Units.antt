@@ -1,6 +1,5 @@
 -- What an accepted chart starts is at a unit.
-use Rattle.std.proofs.Common.{◌≡◌, ℕ, ◌+◌, ◌<◌, ◌&&◌, nat_lt, Bool, true, false, List, [], ◌∷◌, ◌++◌, length, Option, Some, None, unwrap_or, refl, sym, ◌∙◌, ap, arith, ltb-true}
-use Rattle.std.specs.Prelude.{flat_map}
+use Rattle.std.proofs.Common.{◌≡◌, ℕ, ◌+◌, ◌<◌, nat_lt, Bool, true, false, List, [], ◌∷◌, length, Option, Some, None, unwrap_or, refl, ◌∙◌, ap, arith, ltb-true}
 use Rattle.std.specs.List.{slice_get, list_all}
 use Rattle.std.specs.Option.{option_map, option_map_or}
 use Rattle.std.proofs.lemmas.List.Folds.{list_all-append}
@@ -10,7 +9,7 @@ use Rattle.wf_model.specs.declared.chart.Activity.{Activity}
 use Rattle.wf_model.specs.declared.chart.Transition.{Transition}
 use Rattle.wf_model.specs.declared.chart.Chart.{Chart}
 use Rattle.wf_model.specs.declared.update.StartAt.{StartAt}
-use Rattle.wf_model.specs.Accepted.{IsAccepted, is_known_action, is_known_transition, is_known_activity, is_known_expr, is_unit}
+use Rattle.wf_model.specs.Accepted.{IsAccepted, is_known_action, is_known_transition, is_known_activity, is_unit}
 use Rattle.wf_semantics.specs.Effects.{actions_of, starts_from, starts_of}
 use Rattle.wf_semantics.specs.Run.{act_unit}
 use Rattle.wf_semantics.proofs.Bools.{and_both, and_true}

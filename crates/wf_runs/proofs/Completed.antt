@@ -20,9 +20,11 @@ use Rattle.wf_runs.specs.Runs.{IsRunFrom, IsRun}
 use Rattle.wf_runs.specs.Completions.{is_completed, completing, all_entries}
 use Rattle.wf_runs.proofs.Closing.{closed_now, closed_next}
 
+-- the answer to a completion, by what is tested
 abbrev answer : Bool → Bool → Bool → Bool → Result (Unit {0}) OuterFault
 answer at of done fit = cond (not at) (Err WrongUnit) (cond (not of) (Err NoItem) (cond done (Err AlreadyDone) (cond (not fit) (Err WrongOutput) (Ok tt))))
 
+-- a completion is admitted where each test passes
 passes : (at of closed pending fit : Bool) → is_ok (answer at of (closed || pending) fit) ≡ true → (of ≡ true) × (closed ≡ false) × (pending ≡ false)
 passes true true false false true h = (refl, refl, refl)
 passes true true false false false h = absurd (true≢false (sym h))
@@ -43,7 +45,7 @@ module _ (chart : Chart) (c : CentralState) where
   is_there a None h = absurd (true≢false (sym h))
   is_there a (Some x) h = refl
 
-  -- the same of an entry
+  -- the same of an entry that completes the item
   admitted_entry : (pending : List Entry) (u v n : ℕ) (outer : Outer) → is_ok (may_be_admitted chart c pending v outer) ≡ true → ((v == u) && completes n outer) ≡ true →
       (is_some (item_at (c.items u) n) ≡ true) × (is_closed (item_at (c.items u) n) ≡ false) × (is_pending pending u n ≡ false)
   admitted_entry pending u v n (Happen e) h k = absurd (true≢false (sym (and_both (v == u) false k).1))
@@ -63,7 +65,7 @@ module _ (chart : Chart) (c : CentralState) where
         | inr r ↦ completed_is_there (pending ++ x ∷ []) xs u n both.1 r
       ]
 
-  -- where entries may come that are not yet, those that complete an item, the pending and the closed are one at most
+  -- of entries that may come, one at most completes an item, and none where it is closed or a pending entry completes it
   pub one_completion : (pending entries : List Entry) (u n : ℕ) → may_come_after chart c pending entries ≡ true →
       length (completing u n entries) + one (is_closed (item_at (c.items u) n) || is_pending pending u n) ≤ 1
   one_completion pending [] u n h = few (is_closed (item_at (c.items u) n) || is_pending pending u n)
@@ -117,6 +119,7 @@ module _ (chart : Chart) where
       go false true f = f refl
       go false false f = refl
 
+  -- after a run an item is closed that was, or that some entry of the run completes
   closed_along : (c : CentralState) (steps : List (List Entry)) (u n : ℕ) → IsRunFrom chart c steps →
       is_closed (item_at ((after_steps chart c steps).items u) n) ≡ (is_closed (item_at (c.items u) n) || is_completed steps u n)
   closed_along c [] u n h = or_none (is_closed (item_at (c.items u) n))
@@ -148,6 +151,7 @@ module _ (chart : Chart) where
       (λ ok. let w = admitted chart (central_run chart steps) pending u n a outputs ok in
       true≢false (sym h ∙ ap₂ (λ (p q : Bool). p || q) (sym (closed_is_completed steps u n run) ∙ w.1) w.2))
 
+  -- one entry of a run at most completes an item, and none where it was closed
   once_along : (c : CentralState) (steps : List (List Entry)) (u n : ℕ) → IsRunFrom chart c steps → length (completing u n (all_entries steps)) + one (is_closed (item_at (c.items u) n)) ≤ 1
   once_along c [] u n h = few (is_closed (item_at (c.items u) n))
     where

@@ -118,6 +118,7 @@ module _ (chart : Chart) where
     number_of before None h = absurd (true≢false (sym h))
     number_of before (Some v) h = ap before (eqb-true v u h)
 
+    -- at unit u the starts have the numbers that follow
     numbered_at : (before : ℕ → ℕ) (starts : List StartAt) →
         filter (λ s. is_act_at chart u s.0.0) (numbered chart before starts)
         ≡ zip (map (λ s. s.act) (filter (is_at chart u) starts)) (range_with_len (before u + 1) (length (filter (is_at chart u) starts)))

@@ -1,5 +1,5 @@
 -- What the outcome of a rule says of the pieces that it looked at, and that this holds of two rules one behind the other.
-use Rattle.std.proofs.Common.{arith, ◌≡◌, ◌≢◌, ℕ, ◌+◌, List, [], ◌∷◌, ◌++◌, length, map, Option, Some, None, Ok, Err, refl, sym, ◌∙◌, ap, subst, append_assoc, length-append}
+use Rattle.std.proofs.Common.{arith, ◌≡◌, ◌≢◌, ◌≤◌, ℕ, ◌+◌, List, [], ◌∷◌, ◌++◌, length, map, Option, Some, None, Ok, Err, refl, sym, ◌∙◌, ap, subst, append_assoc, length-append}
 use Rattle.wf_lex.specs.declared.token.Token.{Token}
 use Rattle.wf_cursor.specs.declared.fault.TextFault.TheVariants as fault
 use Rattle.wf_cursor.specs.declared.piece.Piece.{Piece}
@@ -121,7 +121,7 @@ parts_behind i j at us P Q whole place f parts = record {
 }
 
 -- what the second does, behind what the first took
-behind_fits : {B : Type 0} (i j : Input) (L M : Shape) (F G : Follow) (s : Outcome B) → Joins M F G → Took i j L F → Fits j M G s → Fits i (L · M) G s
+pub behind_fits : {B : Type 0} (i j : Input) (L M : Shape) (F G : Follow) (s : Outcome B) → Joins M F G → Took i j L F → Fits j M G s → Fits i (L · M) G s
 behind_fits i j L M F G (Ok q) joins took fits = record {
   us = took.us ++ fits.us;
   whole = longer i took.us fits.us (pieces_left q.1) (pieces_left j) took.whole fits.whole;
@@ -227,3 +227,18 @@ recast i L M F G (Err (fault.UnknownName at)) recasts fits = recast_goes_on i at
 recast i L M F G (Err (fault.DoubleName at)) recasts fits = recast_goes_on i at L M recasts.wider fits
 recast i L M F G (Err (fault.Oversize at)) recasts fits = recast_goes_on i at L M recasts.wider fits
 recast i L M F G (Err _) recasts fits = absurd fits
+
+-- two shapes that are the same
+pub recast_all : {A : Type 0} (i : Input) (L M : Shape) (F : Follow) (r : Outcome A) → ((us : List Piece) → L us → M us) → ((us : List Piece) → M us → L us) → Fits i L F r → Fits i M F r
+recast_all i L M F r wider narrower fits = recast i L M F F r (record { wider = wider; narrow = λ us vs shaped follows is. (narrower us shaped, follows) }) fits
+
+-- what follows may be less
+pub follows_less : {A : Type 0} (i : Input) (L : Shape) (F G : Follow) (r : Outcome A) → ((q : Option Piece) → G q → F q) → Fits i L F r → Fits i L G r
+follows_less i L F G r less fits = recast i L L F G r (record { wider = λ us shaped. shaped; narrow = λ us vs shaped follows is. (shaped, less (first vs) follows) }) fits
+
+-- no more is left than before
+pub no_longer : {A : Type 0} (i j : Input) (L : Shape) (F : Follow) (r : Outcome A) (x : A) → Fits i L F r → r ≡ Ok (x, j) → length (pieces_left j) ≤ length (pieces_left i)
+no_longer {A} i j L F r x fits is =
+    let took : Took i j L F = subst (λ (s : Outcome A). Fits i L F s) is fits in
+    let l = length-append took.us (pieces_left j) in
+    let w = ap length took.whole in omega arith

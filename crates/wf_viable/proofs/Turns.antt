@@ -121,3 +121,32 @@ module _ (rank : Rank) (operator : Option Piece → Option Op) (table : Table ra
         by_found : (found : Option Op) → operator (piece i) ≡ found → Fits i T G (chain_by operand more left found i)
         by_found None is = took_none i i T G (refl, refl) turns.ends (only_none i is)
         by_found (Some o) is = by_piece (piece i) o refl is
+
+-- no piece is left where their count is nothing
+pub none_left : (i : Input) → length (pieces_left i) ≤ zero → pieces_left i ≡ []
+none_left i h = by_list (pieces_left i) h
+  where
+    by_list : (ps : List Piece) → length ps ≤ zero → ps ≡ []
+    by_list [] h' = refl
+    by_list (p ∷ ps) h' = let never : ⊥ = omega (arith, h') in absurd never
+
+module _ (rank : Rank) (operator : Option Piece → Option Op) (table : Table rank operator) (L T : Shape) (turns : Turns rank L T T) (F : Follow)
+    (ends : (p : Piece) (o : Op) → operator (Some p) ≡ Some o → F (Some p)) (operand : Parser Expr) (operand_fits : (i : Input) → Fits i L F (operand i)) (some : Productive L) where
+
+  joins : Joins T F (EndsAll operator F)
+  joins = tail_joins rank operator table L T T turns F ends
+
+  chain_from_fits : (n : ℕ) (i : Input) (left : Expr) → length (pieces_left i) ≤ n → Fits i T (EndsAll operator F) (chain_from operator operand n left i)
+  unfolding chain_from
+  chain_from_fits zero i left short =
+      let at_end : operator (piece i) ≡ None = ap operator (piece_first i ∙ ap first (none_left i short)) ∙ table.at_end in
+      took_none i i T (EndsAll operator F) (refl, refl) turns.ends (only_none rank operator table L T T turns F ends i at_end)
+  chain_from_fits (suc n) i left short =
+      turn_fits rank operator table L T T turns F ends operand operand_fits some (record { pieces = []; shaped = turns.ends }) joins i (chain_from operator operand n) left
+      (λ j x shorter. chain_from_fits n j x (omega (arith, shorter, short)))
+
+  -- operand { operator operand }
+  pub chain_fits : (i : Input) → Fits i (L · T) (EndsAll operator F) (chain operator operand i)
+  chain_fits i =
+      then_fits i L T F (EndsAll operator F) (operand i) (rest_of operator operand) joins (record { pieces = []; shaped = turns.ends }) (operand_fits i)
+      (λ x j got. chain_from_fits (length j.left) j x (let l = length-map j.left (λ t. (lexeme_of j.text t).piece) in omega arith))

@@ -1,0 +1,259 @@
+-- The rules of expressions take the phrases of their lines, and tell a fault of syntax at the first piece that fits none.
+use Rattle.std.proofs.Common.{arith, ◌≡◌, ◌≢◌, ℕ, zero, suc, ◌+◌, ◌≤◌, Bool, true, false, if◌then◌else◌, ◌⊎◌, inl, inr, List, [], ◌∷◌, ◌++◌, length, map, Option, Some, None, Ok, Err, refl, sym, ◌∙◌, ap, subst, append_assoc, append-nil}
+use Rattle.std.proofs.lemmas.List.{length-map}
+use Rattle.wf_model.specs.declared.limits.TheConstants.{MAX_OPEN, MAX_INT}
+use Rattle.wf_model.specs.declared.expr.Op.{Op}
+use Rattle.wf_model.specs.declared.expr.Expr.{Expr}
+use Rattle.wf_model.specs.declared.expr.Expr.TheVariants as e
+use Rattle.wf_cursor.specs.declared.piece.Piece.{Piece}
+use Rattle.wf_cursor.specs.declared.piece.Piece.TheVariants as pieces
+use Rattle.wf_cursor.specs.Input as input
+use Rattle.wf_cursor.specs.Input.{Input, Outcome, Parser, and_then, ◌>>=◌, ◌>>◌, pure, take, syntax, oversize, piece, sees, next, node, expect, without_nodes}
+use Rattle.wf_phrase.specs.Operators.{or_operator, and_operator, comparison, sum_operator, product_operator}
+use Rattle.wf_phrase.specs.Expressions.{open_paren, activity_inside, truth, number, characters, variable, in_state, count_of, done_of, chain_by, chain, atom_by, atom, unary_from, unary, prod, sum, comp_by, comp, neg_from, neg, conj, disj, parens, expr}
+use Rattle.wf_grammar.specs.Lexemes.{lexeme_of}
+use Rattle.wf_grammar.specs.Phrases.{Rank, sign_of, line_of}
+use Rattle.wf_grammar.proofs.Reading.{Follow}
+use Rattle.wf_grammar.proofs.Follows.{Anything, EndsProd, EndsSum, EndsComp, EndsConj, EndsExpr, sum_ends, comparison_ends, and_ends, or_ends, close_ends}
+use Rattle.wf_grammar.proofs.Tables.{or_has_sign, and_has_sign, comparison_has_sign, sum_has_sign, product_has_sign, or_found, and_found, comparison_found, sum_found, product_found}
+use Rattle.wf_viable.specs.Shapes.{Shape, first, One, Then, ◌·◌}
+use Rattle.wf_viable.specs.Expressions.{Line, Phrase}
+use Rattle.wf_viable.specs.Expressions as phrase
+use Rattle.wf_viable.proofs.Fits.{pieces_left, Fits, Parts, Productive, Joins, Recasts, recast, recast_all, follows_less, behind_fits, then_fits}
+use Rattle.wf_viable.proofs.Steps.{piece_first, Next, behind_next, took_one, stuck_here, faults_next, by_seeing, node_then, with_node, then_keeps, same_fits, expect_fits, variable_fits, state_fits, activity_fits, int_fits, text_fits, open_paren_fits}
+use Rattle.wf_viable.proofs.Turns.{Table, Turns, Turned, EndsAll, none_left, turn_fits, tail_joins, chain_fits}
+
+-- ---- atoms
+
+-- ( NAME )
+abbrev pub InParens : Shape
+InParens = One pieces.OpenParen · (One pieces.Name · One pieces.CloseParen)
+
+-- ( expr )
+abbrev pub ExprInParens : Shape
+ExprInParens = One pieces.OpenParen · (Phrase Line.expr · One pieces.CloseParen)
+
+-- the atoms that begin with this
+abbrev AtomWith : Piece → Shape
+AtomWith pieces.True = One pieces.True
+AtomWith pieces.False = One pieces.False
+AtomWith pieces.Int = One pieces.Int
+AtomWith pieces.Text = One pieces.Text
+AtomWith pieces.Name = One pieces.Name
+AtomWith pieces.In = One pieces.In · InParens
+AtomWith pieces.Count = One pieces.Count · InParens
+AtomWith pieces.Done = One pieces.Done · InParens
+AtomWith pieces.OpenParen = ExprInParens
+AtomWith _ = λ ps. ⊥
+
+in_parens : InParens (pieces.OpenParen ∷ pieces.Name ∷ pieces.CloseParen ∷ [])
+in_parens = record {
+  front = pieces.OpenParen ∷ [];
+  back = pieces.Name ∷ pieces.CloseParen ∷ [];
+  whole = refl;
+  is_front = One.one;
+  is_back = record { front = pieces.Name ∷ []; back = pieces.CloseParen ∷ []; whole = refl; is_front = One.one; is_back = One.one };
+}
+
+test_in_parens : (p : Piece) → (One p · InParens) (p ∷ pieces.OpenParen ∷ pieces.Name ∷ pieces.CloseParen ∷ [])
+test_in_parens p = record { front = p ∷ []; back = pieces.OpenParen ∷ pieces.Name ∷ pieces.CloseParen ∷ []; whole = refl; is_front = One.one; is_back = in_parens }
+
+is_test : (p : Piece) (us : List Piece) → (One p · InParens) us → us ≡ p ∷ pieces.OpenParen ∷ pieces.Name ∷ pieces.CloseParen ∷ []
+is_test p us both = both.whole ∙ by_one both.front both.back both.is_front both.is_back
+  where
+    by_three : (a b : List Piece) → One pieces.Name a → One pieces.CloseParen b → a ++ b ≡ pieces.Name ∷ pieces.CloseParen ∷ []
+    by_three a b One.one One.one = refl
+    by_two : (a b : List Piece) → One pieces.OpenParen a → (One pieces.Name · One pieces.CloseParen) b → a ++ b ≡ pieces.OpenParen ∷ pieces.Name ∷ pieces.CloseParen ∷ []
+    by_two a b One.one both' = ap (λ x. pieces.OpenParen ∷ x) (both'.whole ∙ by_three both'.front both'.back both'.is_front both'.is_back)
+    by_one : (a b : List Piece) → One p a → InParens b → a ++ b ≡ p ∷ pieces.OpenParen ∷ pieces.Name ∷ pieces.CloseParen ∷ []
+    by_one a b One.one both' = ap (λ x. p ∷ x) (both'.whole ∙ by_two both'.front both'.back both'.is_front both'.is_back)
+
+is_in_parens : (us : List Piece) → ExprInParens us → Phrase Line.atom us
+is_in_parens us both = subst (Phrase Line.atom) (sym both.whole) (by_one both.front both.back both.is_front both.is_back)
+  where
+    by_close : (a b : List Piece) → Phrase Line.expr a → One pieces.CloseParen b → Phrase Line.atom (pieces.OpenParen ∷ (a ++ b))
+    by_close a b shaped One.one = phrase.atom_expr shaped
+    by_one : (a b : List Piece) → One pieces.OpenParen a → (Phrase Line.expr · One pieces.CloseParen) b → Phrase Line.atom (a ++ b)
+    by_one a b One.one both' = subst (λ x. Phrase Line.atom (pieces.OpenParen ∷ x)) (sym both'.whole) (by_close both'.front both'.back both'.is_front both'.is_back)
+
+-- they are atoms
+atom_wider : (p : Piece) (us : List Piece) → AtomWith p us → Phrase Line.atom us
+atom_wider pieces.True us One.one = phrase.atom_true
+atom_wider pieces.False us One.one = phrase.atom_false
+atom_wider pieces.Int us One.one = phrase.atom_int
+atom_wider pieces.Text us One.one = phrase.atom_text
+atom_wider pieces.Name us One.one = phrase.atom_name
+atom_wider pieces.In us shaped = subst (Phrase Line.atom) (sym (is_test pieces.In us shaped)) phrase.atom_in
+atom_wider pieces.Count us shaped = subst (Phrase Line.atom) (sym (is_test pieces.Count us shaped)) phrase.atom_count
+atom_wider pieces.Done us shaped = subst (Phrase Line.atom) (sym (is_test pieces.Done us shaped)) phrase.atom_done
+atom_wider pieces.OpenParen us shaped = is_in_parens us shaped
+atom_wider _ us shaped = absurd shaped
+
+-- and each atom is one of those that begin as it does
+atom_narrow : (p : Piece) (us vs : List Piece) → Phrase Line.atom us → first (us ++ vs) ≡ Some p → AtomWith p us
+atom_narrow p us vs phrase.atom_true is = let same : pieces.True ≡ p = cc in subst (λ q. AtomWith q (pieces.True ∷ [])) same One.one
+atom_narrow p us vs phrase.atom_false is = let same : pieces.False ≡ p = cc in subst (λ q. AtomWith q (pieces.False ∷ [])) same One.one
+atom_narrow p us vs phrase.atom_int is = let same : pieces.Int ≡ p = cc in subst (λ q. AtomWith q (pieces.Int ∷ [])) same One.one
+atom_narrow p us vs phrase.atom_text is = let same : pieces.Text ≡ p = cc in subst (λ q. AtomWith q (pieces.Text ∷ [])) same One.one
+atom_narrow p us vs phrase.atom_name is = let same : pieces.Name ≡ p = cc in subst (λ q. AtomWith q (pieces.Name ∷ [])) same One.one
+atom_narrow p us vs phrase.atom_in is = let same : pieces.In ≡ p = cc in subst (λ q. AtomWith q (pieces.In ∷ pieces.OpenParen ∷ pieces.Name ∷ pieces.CloseParen ∷ [])) same (test_in_parens pieces.In)
+atom_narrow p us vs phrase.atom_count is = let same : pieces.Count ≡ p = cc in subst (λ q. AtomWith q (pieces.Count ∷ pieces.OpenParen ∷ pieces.Name ∷ pieces.CloseParen ∷ [])) same (test_in_parens pieces.Count)
+atom_narrow p us vs phrase.atom_done is = let same : pieces.Done ≡ p = cc in subst (λ q. AtomWith q (pieces.Done ∷ pieces.OpenParen ∷ pieces.Name ∷ pieces.CloseParen ∷ [])) same (test_in_parens pieces.Done)
+atom_narrow p us vs (phrase.atom_expr {us = ws} inner) is =
+    let same : pieces.OpenParen ≡ p = cc in
+    subst (λ q. AtomWith q (pieces.OpenParen ∷ (ws ++ pieces.CloseParen ∷ []))) same
+    (record { front = pieces.OpenParen ∷ []; back = ws ++ pieces.CloseParen ∷ []; whole = refl; is_front = One.one; is_back = record { front = ws; back = pieces.CloseParen ∷ []; whole = refl; is_front = inner; is_back = One.one } })
+
+some_atom : Productive (Phrase Line.atom)
+some_atom = record { pieces = pieces.Name ∷ []; shaped = phrase.atom_name }
+
+-- what reads the atoms that begin with the next piece reads an atom
+by_next : {A : Type 0} (i : Input) (p : Piece) (r : Outcome A) → Next p i → Fits i (AtomWith p) Anything r → Fits i (Phrase Line.atom) Anything r
+by_next i p r h fits = recast i (AtomWith p) (Phrase Line.atom) Anything Anything r (record { wider = atom_wider p; narrow = λ us vs shaped follows is. (atom_narrow p us vs shaped (is ∙ h), tt) }) fits
+
+-- one piece, and a node
+truth_fits : (i : Input) (p : Piece) (b : Bool) → Next p i → Fits i (One p) Anything (truth b i)
+unfolding truth
+truth_fits i p b h =
+    then_keeps i (One p) Anything ((node >> take) i) (λ _. pure (e.Bool b)) (node_then i p [] (One p) Anything take h One.one (took_one (with_node i) (next (with_node i)) p h (refl, refl)))
+    (λ x j. (refl, refl))
+
+number_fits : (i : Input) → Next pieces.Int i → Fits i (One pieces.Int) Anything (number i)
+unfolding number input.int
+number_fits i h = node_then i pieces.Int [] (One pieces.Int) Anything (input.int >>= (λ n. pure (e.Int n))) h One.one
+    (then_keeps (with_node i) (One pieces.Int) Anything (input.int (with_node i)) (λ n. pure (e.Int n)) (int_fits (with_node i) MAX_INT) (λ x j. (refl, refl)))
+
+characters_fits : (i : Input) → Next pieces.Text i → Fits i (One pieces.Text) Anything (characters i)
+unfolding characters
+characters_fits i h = node_then i pieces.Text [] (One pieces.Text) Anything (input.text >>= (λ t. pure (e.Text t))) h One.one
+    (then_keeps (with_node i) (One pieces.Text) Anything (input.text (with_node i)) (λ t. pure (e.Text t)) (text_fits (with_node i)) (λ x j. (refl, refl)))
+
+variable_atom_fits : (i : Input) → Next pieces.Name i → Fits i (One pieces.Name) Anything (variable i)
+unfolding variable
+variable_atom_fits i h = node_then i pieces.Name [] (One pieces.Name) Anything (input.variable >>= (λ x. pure (e.Var x))) h One.one
+    (then_keeps (with_node i) (One pieces.Name) Anything (input.variable (with_node i)) (λ x. pure (e.Var x)) (variable_fits (with_node i)) (λ x j. (refl, refl)))
+
+one_more : (p : Piece) → Productive (One p)
+one_more p = record { pieces = p ∷ []; shaped = One.one }
+
+-- ( NAME ), whatever the name is to be
+inside_fits : {A B : Type 0} (i : Input) (depth : ℕ) (named : Parser A) (f : A → Parser B) → ((k : Input) → Fits k (One pieces.Name) Anything (named k))
+    → ((x : A) (k : Input) → Fits k (One pieces.CloseParen) Anything (f x k)) → Fits i InParens Anything ((open_paren depth >> (named >>= f)) i)
+inside_fits i depth named f named_fits f_fits =
+    then_fits i (One pieces.OpenParen) (One pieces.Name · One pieces.CloseParen) Anything Anything (open_paren depth i) (λ _. named >>= f) (λ us vs a b. tt)
+    (record { pieces = pieces.Name ∷ pieces.CloseParen ∷ []; shaped = record { front = pieces.Name ∷ []; back = pieces.CloseParen ∷ []; whole = refl; is_front = One.one; is_back = One.one } })
+    (open_paren_fits i depth)
+    (λ x j got. then_fits j (One pieces.Name) (One pieces.CloseParen) Anything Anything (named j) f (λ us vs a b. tt) (one_more pieces.CloseParen) (named_fits j) (λ y k got'. f_fits y k))
+
+close_fits : {A : Type 0} (i : Input) (a : A) → Fits i (One pieces.CloseParen) Anything ((expect pieces.CloseParen >> pure a) i)
+close_fits i a = then_keeps i (One pieces.CloseParen) Anything (expect pieces.CloseParen i) (λ _. pure a) (expect_fits i pieces.CloseParen) (λ x j. (refl, refl))
+
+-- a word, a node, and what stands in parentheses
+test_fits : {A : Type 0} (i : Input) (p : Piece) (f : Parser A) → Next p i → ((k : Input) → Fits k InParens Anything (f k)) → Fits i (One p · InParens) Anything ((node >> (take >> f)) i)
+test_fits i p f h fits =
+    let k = with_node i in
+    node_then i p (pieces.OpenParen ∷ pieces.Name ∷ pieces.CloseParen ∷ []) (One p · InParens) Anything (take >> f) h (test_in_parens p)
+    (behind_fits k (next k) (One p) InParens Anything Anything (f (next k)) (λ us vs a b. tt) (took_one k (next k) p h (refl, refl)) (fits (next k)))
+
+in_state_fits : (i : Input) (depth : ℕ) → Next pieces.In i → Fits i (One pieces.In · InParens) Anything (in_state depth i)
+unfolding in_state
+in_state_fits i depth h = test_fits i pieces.In (open_paren depth >> (input.state >>= (λ s. expect pieces.CloseParen >> pure (e.In s)))) h
+    (λ k. inside_fits k depth input.state (λ s. expect pieces.CloseParen >> pure (e.In s)) state_fits (λ s j. close_fits j (e.In s)))
+
+activity_inside_fits : (i : Input) (depth : ℕ) → Fits i InParens Anything (activity_inside depth i)
+unfolding activity_inside
+activity_inside_fits i depth = inside_fits i depth input.activity (λ a. expect pieces.CloseParen >> pure a) activity_fits (λ a j. close_fits j a)
+
+count_fits : (i : Input) (depth : ℕ) → Next pieces.Count i → Fits i (One pieces.Count · InParens) Anything (count_of depth i)
+unfolding count_of
+count_fits i depth h = test_fits i pieces.Count (activity_inside depth >>= (λ a. pure (e.Count a))) h
+    (λ k. then_keeps k InParens Anything (activity_inside depth k) (λ a. pure (e.Count a)) (activity_inside_fits k depth) (λ x j. (refl, refl)))
+
+done_fits : (i : Input) (depth : ℕ) → Next pieces.Done i → Fits i (One pieces.Done · InParens) Anything (done_of depth i)
+unfolding done_of
+done_fits i depth h = test_fits i pieces.Done (activity_inside depth >>= (λ a. pure (e.Done a))) h
+    (λ k. then_keeps k InParens Anything (activity_inside depth k) (λ a. pure (e.Done a)) (activity_inside_fits k depth) (λ x j. (refl, refl)))
+
+-- the reader of parentheses takes them
+abbrev NestedFits : Parser Expr → Type 0
+NestedFits nested = (i : Input) → Next pieces.OpenParen i → Fits i ExprInParens Anything (nested i)
+
+module _ (depth : ℕ) (nested : Parser Expr) (nested_fits : NestedFits nested) where
+  atom_by_fits : (i : Input) (p : Piece) → Next p i → Fits i (Phrase Line.atom) Anything (atom_by depth nested (Some p) i)
+  atom_by_fits i pieces.True h = by_next i pieces.True (truth true i) h (truth_fits i pieces.True true h)
+  atom_by_fits i pieces.False h = by_next i pieces.False (truth false i) h (truth_fits i pieces.False false h)
+  atom_by_fits i pieces.Int h = by_next i pieces.Int (number i) h (number_fits i h)
+  atom_by_fits i pieces.Text h = by_next i pieces.Text (characters i) h (characters_fits i h)
+  atom_by_fits i pieces.Name h = by_next i pieces.Name (variable i) h (variable_atom_fits i h)
+  atom_by_fits i pieces.In h = by_next i pieces.In (in_state depth i) h (in_state_fits i depth h)
+  atom_by_fits i pieces.Count h = by_next i pieces.Count (count_of depth i) h (count_fits i depth h)
+  atom_by_fits i pieces.Done h = by_next i pieces.Done (done_of depth i) h (done_fits i depth h)
+  atom_by_fits i pieces.OpenParen h = by_next i pieces.OpenParen (nested i) h (nested_fits i h)
+  atom_by_fits i p h = stuck_here i (Phrase Line.atom) Anything some_atom (λ us vs shaped follows is. atom_narrow p us vs shaped (is ∙ h))
+
+  pub atom_fits : (i : Input) → Fits i (Phrase Line.atom) Anything (atom depth nested i)
+  unfolding atom
+  atom_fits i = by_piece (piece i) refl
+    where
+      by_piece : (q : Option Piece) → piece i ≡ q → Fits i (Phrase Line.atom) Anything (atom_by depth nested q i)
+      by_piece None is = stuck_here i (Phrase Line.atom) Anything some_atom (λ us vs shaped follows at_end. by_atom us vs shaped (at_end ∙ sym (piece_first i) ∙ is))
+        where
+          by_atom : (us vs : List Piece) → Phrase Line.atom us → first (us ++ vs) ≡ None → ⊥
+          by_atom us vs phrase.atom_true h = cc
+          by_atom us vs phrase.atom_false h = cc
+          by_atom us vs phrase.atom_int h = cc
+          by_atom us vs phrase.atom_text h = cc
+          by_atom us vs phrase.atom_name h = cc
+          by_atom us vs phrase.atom_in h = cc
+          by_atom us vs phrase.atom_count h = cc
+          by_atom us vs phrase.atom_done h = cc
+          by_atom us vs (phrase.atom_expr inner) h = cc
+      by_piece (Some p) is = atom_by_fits i p (sym (piece_first i) ∙ is)
+
+  -- ---- unary
+
+  some_unary : Productive (Phrase Line.unary)
+  some_unary = record { pieces = pieces.Name ∷ []; shaped = phrase.unary_atom phrase.atom_name }
+
+  -- what a rule reads where no sign or word is before it
+  unary_of_atom : (i : Input) → (Next pieces.Minus i → ⊥) → Fits i (Phrase Line.unary) Anything (atom depth nested i)
+  unary_of_atom i absent = recast i (Phrase Line.atom) (Phrase Line.unary) Anything Anything (atom depth nested i) (record { wider = λ us shaped. phrase.unary_atom shaped; narrow = narrow }) (atom_fits i)
+    where
+      narrow : (us vs : List Piece) → Phrase Line.unary us → Anything (first vs) → first (us ++ vs) ≡ first (pieces_left i) → Phrase Line.atom us × Anything (first vs)
+      narrow us vs (phrase.minus shaped) follows is = absurd (absent (sym is))
+      narrow us vs (phrase.unary_atom shaped) follows is = (shaped, tt)
+
+  no_atom_with_minus : (us vs : List Piece) → Phrase Line.atom us → first (us ++ vs) ≡ Some pieces.Minus → ⊥
+  no_atom_with_minus us vs shaped is = atom_narrow pieces.Minus us vs shaped is
+
+  -- - unary
+  unary_of_minus : {A : Type 0} (i : Input) (r : Outcome A) → Next pieces.Minus i → Fits i (One pieces.Minus · Phrase Line.unary) Anything r → Fits i (Phrase Line.unary) Anything r
+  unary_of_minus i r h fits = recast i (One pieces.Minus · Phrase Line.unary) (Phrase Line.unary) Anything Anything r (record { wider = wider; narrow = narrow }) fits
+    where
+      by_one : (a b : List Piece) → One pieces.Minus a → Phrase Line.unary b → Phrase Line.unary (a ++ b)
+      by_one a b One.one shaped = phrase.minus shaped
+      wider : (us : List Piece) → (One pieces.Minus · Phrase Line.unary) us → Phrase Line.unary us
+      wider us both = subst (Phrase Line.unary) (sym both.whole) (by_one both.front both.back both.is_front both.is_back)
+      narrow : (us vs : List Piece) → Phrase Line.unary us → Anything (first vs) → first (us ++ vs) ≡ first (pieces_left i) → (One pieces.Minus · Phrase Line.unary) us × Anything (first vs)
+      narrow us vs (phrase.minus {us = ws} shaped) follows is = (record { front = pieces.Minus ∷ []; back = ws; whole = refl; is_front = One.one; is_back = shaped }, tt)
+      narrow us vs (phrase.unary_atom shaped) follows is = absurd (no_atom_with_minus us vs shaped (is ∙ h))
+
+  unary_from_fits : (n : ℕ) (i : Input) → length (pieces_left i) ≤ n → Fits i (Phrase Line.unary) Anything (unary_from depth nested n i)
+  unfolding unary_from
+  unary_from_fits zero i short = unary_of_atom i (λ h. (let empty = ap first (none_left i short) in cc))
+  unary_from_fits (suc n) i short =
+      by_seeing i pieces.Minus (Phrase Line.unary) Anything ((node >> (take >> (unary_from depth nested n >>= (λ x. pure (e.Neg x))))) i) (atom depth nested i)
+      (λ h.
+          let k = with_node i in
+          let b = behind_next k pieces.Minus h in
+          let w = ap length b.whole in
+          let inner : Fits (next k) (Phrase Line.unary) Anything ((unary_from depth nested n >>= (λ x. pure (e.Neg x))) (next k)) =
+              then_keeps (next k) (Phrase Line.unary) Anything (unary_from depth nested n (next k)) (λ x. pure (e.Neg x)) (unary_from_fits n (next k) (omega (arith, w, short))) (λ x j. (refl, refl)) in
+          unary_of_minus i ((node >> (take >> (unary_from depth nested n >>= (λ x. pure (e.Neg x))))) i) h
+          (node_then i pieces.Minus (pieces.Name ∷ []) (One pieces.Minus · Phrase Line.unary) Anything (take >> (unary_from depth nested n >>= (λ x. pure (e.Neg x)))) h
+              (record { front = pieces.Minus ∷ []; back = pieces.Name ∷ []; whole = refl; is_front = One.one; is_back = phrase.unary_atom phrase.atom_name })
+              (behind_fits k (next k) (One pieces.Minus) (Phrase Line.unary) Anything Anything ((unary_from depth nested n >>= (λ x. pure (e.Neg x))) (next k)) (λ us vs a c. tt) (took_one k (next k) pieces.Minus h (refl, refl)) inner)))
+      (unary_of_atom i)
+
+  unary_fits : (i : Input) → Fits i (Phrase Line.unary) Anything (unary depth nested i)
+  unary_fits i = unary_from_fits (length i.left) i (let l = length-map i.left (λ t. (lexeme_of i.text t).piece) in omega arith)

@@ -1,4 +1,5 @@
 pub mod Fits
 pub mod Steps
 pub mod Turns
+pub mod Chains
 pub mod Phrases

@@ -20,8 +20,9 @@ use Rattle.wf_viable.specs.Shapes.{Shape, first, One, Then, ◌·◌}
 use Rattle.wf_viable.specs.Expressions.{Line, Phrase}
 use Rattle.wf_viable.specs.Expressions as phrase
 use Rattle.wf_viable.proofs.Fits.{pieces_left, Fits, Parts, Productive, Joins, Recasts, recast, recast_all, follows_less, behind_fits, then_fits}
-use Rattle.wf_viable.proofs.Steps.{piece_first, Next, behind_next, took_one, stuck_here, faults_next, by_seeing, node_then, with_node, then_keeps, same_fits, expect_fits, variable_fits, state_fits, activity_fits, int_fits, text_fits, open_paren_fits}
-use Rattle.wf_viable.proofs.Turns.{Table, Turns, Turned, EndsAll, none_left, turn_fits, tail_joins, chain_fits}
+use Rattle.wf_viable.proofs.Steps.{piece_first, Next, behind_next, took_one, took_none, stuck_here, faults_next, by_seeing, node_then, with_node, then_keeps, same_fits, expect_fits, variable_fits, state_fits, activity_fits, int_fits, text_fits, open_paren_fits}
+use Rattle.wf_viable.proofs.Turns.{EndsAll, none_left, turn_fits, tail_joins, chain_fits}
+use Rattle.wf_viable.proofs.Chains.{or_table, and_table, comparison_table, sum_table, product_table, or_turns, and_turns, sum_turns, product_turns, comparison_turns, Compared, Empty, expr_wider, expr_narrower, conj_wider, conj_narrower, sum_wider, sum_narrower, prod_wider, prod_narrower, comp_wider, comp_narrower, comp_with_not}
 
 -- ---- atoms
 
@@ -257,3 +258,136 @@ module _ (depth : ℕ) (nested : Parser Expr) (nested_fits : NestedFits nested) 
 
   unary_fits : (i : Input) → Fits i (Phrase Line.unary) Anything (unary depth nested i)
   unary_fits i = unary_from_fits (length i.left) i (let l = length-map i.left (λ t. (lexeme_of i.text t).piece) in omega arith)
+
+  -- ---- chains
+
+  product_ends : (p : Piece) (o : Op) → product_operator (Some p) ≡ Some o → Anything (Some p)
+  product_ends p o found = tt
+
+  prod_fits : (i : Input) → Fits i (Phrase Line.prod) EndsProd (prod depth nested i)
+  unfolding prod
+  prod_fits i = recast_all i (Phrase Line.unary · Phrase Line.times_unaries) (Phrase Line.prod) EndsProd (chain product_operator (unary depth nested) i) prod_wider prod_narrower
+      (chain_fits Rank.prod product_operator product_table (Phrase Line.unary) (Phrase Line.times_unaries) product_turns Anything product_ends (unary depth nested) unary_fits some_unary i)
+
+  some_prod : Productive (Phrase Line.prod)
+  some_prod = record { pieces = pieces.Name ∷ []; shaped = phrase.prod (phrase.unary_atom phrase.atom_name) phrase.no_times }
+
+  sum_fits : (i : Input) → Fits i (Phrase Line.sum) EndsSum (sum depth nested i)
+  unfolding sum
+  sum_fits i = recast_all i (Phrase Line.prod · Phrase Line.plus_prods) (Phrase Line.sum) EndsSum (chain sum_operator (prod depth nested) i) sum_wider sum_narrower
+      (chain_fits Rank.sum sum_operator sum_table (Phrase Line.prod) (Phrase Line.plus_prods) sum_turns EndsProd sum_ends (prod depth nested) prod_fits some_prod i)
+
+  some_sum : Productive (Phrase Line.sum)
+  some_sum = record { pieces = pieces.Name ∷ []; shaped = phrase.sum (phrase.prod (phrase.unary_atom phrase.atom_name) phrase.no_times) phrase.no_plus }
+
+  nothing_joins : Joins Empty EndsSum EndsComp
+  nothing_joins us vs Empty.empty follows = follows.0
+
+  pure_fits : (i : Input) (x : Expr) → Fits i Empty EndsComp (pure x i)
+  pure_fits i x = took_none i i Empty EndsComp (refl, refl) Empty.empty only
+    where
+      only : (us vs : List Piece) → Empty us → EndsComp (first vs) → first (us ++ vs) ≡ first (pieces_left i) → us ≡ []
+      only us vs Empty.empty follows is = refl
+
+  comp_fits : (i : Input) → Fits i (Phrase Line.comp) EndsComp (comp depth nested i)
+  unfolding comp
+  comp_fits i = recast_all i (Phrase Line.sum · Compared) (Phrase Line.comp) EndsComp (comp depth nested i) comp_wider comp_narrower
+      (then_fits i (Phrase Line.sum) Compared EndsSum EndsComp (sum depth nested i) (λ left k. chain_by (sum depth nested) pure left (comparison (piece k)) k)
+      (tail_joins Rank.comp comparison comparison_table (Phrase Line.sum) Empty Compared comparison_turns EndsSum comparison_ends)
+      (record { pieces = []; shaped = Compared.not_compared }) (sum_fits i)
+      (λ left k got. turn_fits Rank.comp comparison comparison_table (Phrase Line.sum) Empty Compared comparison_turns EndsSum comparison_ends
+          (sum depth nested) sum_fits some_sum (record { pieces = []; shaped = Empty.empty }) nothing_joins k pure left (λ j x shorter. pure_fits j x)))
+
+  -- ---- neg
+
+  some_comp : Phrase Line.comp (pieces.Name ∷ [])
+  some_comp = phrase.comp_sum (phrase.sum (phrase.prod (phrase.unary_atom phrase.atom_name) phrase.no_times) phrase.no_plus)
+
+  some_neg : Productive (Phrase Line.neg)
+  some_neg = record { pieces = pieces.Name ∷ []; shaped = phrase.neg_comp some_comp }
+
+  neg_of_comp : (i : Input) → (Next pieces.Not i → ⊥) → Fits i (Phrase Line.neg) EndsComp (comp depth nested i)
+  neg_of_comp i absent = recast i (Phrase Line.comp) (Phrase Line.neg) EndsComp EndsComp (comp depth nested i) (record { wider = λ us shaped. phrase.neg_comp shaped; narrow = narrow }) (comp_fits i)
+    where
+      narrow : (us vs : List Piece) → Phrase Line.neg us → EndsComp (first vs) → first (us ++ vs) ≡ first (pieces_left i) → Phrase Line.comp us × EndsComp (first vs)
+      narrow us vs (phrase.not shaped) follows is = absurd (absent (sym is))
+      narrow us vs (phrase.neg_comp shaped) follows is = (shaped, follows)
+
+  -- not neg
+  neg_of_not : {A : Type 0} (i : Input) (r : Outcome A) → Next pieces.Not i → Fits i (One pieces.Not · Phrase Line.neg) EndsComp r → Fits i (Phrase Line.neg) EndsComp r
+  neg_of_not i r h fits = recast i (One pieces.Not · Phrase Line.neg) (Phrase Line.neg) EndsComp EndsComp r (record { wider = wider; narrow = narrow }) fits
+    where
+      by_one : (a b : List Piece) → One pieces.Not a → Phrase Line.neg b → Phrase Line.neg (a ++ b)
+      by_one a b One.one shaped = phrase.not shaped
+      wider : (us : List Piece) → (One pieces.Not · Phrase Line.neg) us → Phrase Line.neg us
+      wider us both = subst (Phrase Line.neg) (sym both.whole) (by_one both.front both.back both.is_front both.is_back)
+      narrow : (us vs : List Piece) → Phrase Line.neg us → EndsComp (first vs) → first (us ++ vs) ≡ first (pieces_left i) → (One pieces.Not · Phrase Line.neg) us × EndsComp (first vs)
+      narrow us vs (phrase.not {us = ws} shaped) follows is = (record { front = pieces.Not ∷ []; back = ws; whole = refl; is_front = One.one; is_back = shaped }, follows)
+      narrow us vs (phrase.neg_comp shaped) follows is = absurd (comp_with_not us vs shaped (is ∙ h))
+
+  neg_from_fits : (n : ℕ) (i : Input) → length (pieces_left i) ≤ n → Fits i (Phrase Line.neg) EndsComp (neg_from depth nested n i)
+  unfolding neg_from
+  neg_from_fits zero i short = neg_of_comp i (λ h. (let empty = ap first (none_left i short) in cc))
+  neg_from_fits (suc n) i short =
+      by_seeing i pieces.Not (Phrase Line.neg) EndsComp ((node >> (take >> (neg_from depth nested n >>= (λ x. pure (e.Not x))))) i) (comp depth nested i)
+      (λ h.
+          let k = with_node i in
+          let b = behind_next k pieces.Not h in
+          let w = ap length b.whole in
+          let inner : Fits (next k) (Phrase Line.neg) EndsComp ((neg_from depth nested n >>= (λ x. pure (e.Not x))) (next k)) =
+              then_keeps (next k) (Phrase Line.neg) EndsComp (neg_from depth nested n (next k)) (λ x. pure (e.Not x)) (neg_from_fits n (next k) (omega (arith, w, short))) (λ x j. (refl, refl)) in
+          neg_of_not i ((node >> (take >> (neg_from depth nested n >>= (λ x. pure (e.Not x))))) i) h
+          (node_then i pieces.Not (pieces.Name ∷ []) (One pieces.Not · Phrase Line.neg) EndsComp (take >> (neg_from depth nested n >>= (λ x. pure (e.Not x)))) h
+              (record { front = pieces.Not ∷ []; back = pieces.Name ∷ []; whole = refl; is_front = One.one; is_back = phrase.neg_comp some_comp })
+              (behind_fits k (next k) (One pieces.Not) (Phrase Line.neg) Anything EndsComp ((neg_from depth nested n >>= (λ x. pure (e.Not x))) (next k)) (λ us vs a c. tt) (took_one k (next k) pieces.Not h (refl, refl)) inner)))
+      (neg_of_comp i)
+
+  neg_fits : (i : Input) → Fits i (Phrase Line.neg) EndsComp (neg depth nested i)
+  neg_fits i = neg_from_fits (length i.left) i (let l = length-map i.left (λ t. (lexeme_of i.text t).piece) in omega arith)
+
+  -- ---- and the rest
+
+  conj_fits : (i : Input) → Fits i (Phrase Line.conj) EndsConj (conj depth nested i)
+  unfolding conj
+  conj_fits i = recast_all i (Phrase Line.neg · Phrase Line.and_negs) (Phrase Line.conj) EndsConj (chain and_operator (neg depth nested) i) conj_wider conj_narrower
+      (chain_fits Rank.conj and_operator and_table (Phrase Line.neg) (Phrase Line.and_negs) and_turns EndsComp and_ends (neg depth nested) neg_fits some_neg i)
+
+  some_conj : Productive (Phrase Line.conj)
+  some_conj = record { pieces = pieces.Name ∷ []; shaped = phrase.conj (phrase.neg_comp some_comp) phrase.no_and }
+
+  pub disj_fits : (i : Input) → Fits i (Phrase Line.expr) EndsExpr (disj depth nested i)
+  unfolding disj
+  disj_fits i = recast_all i (Phrase Line.conj · Phrase Line.or_conjs) (Phrase Line.expr) EndsExpr (chain or_operator (conj depth nested) i) expr_wider expr_narrower
+      (chain_fits Rank.expr or_operator or_table (Phrase Line.conj) (Phrase Line.or_conjs) or_turns EndsConj or_ends (conj depth nested) conj_fits some_conj i)
+
+-- ---- expressions
+
+-- a name is an expression
+pub name_is_expr : Phrase Line.expr (pieces.Name ∷ [])
+name_is_expr = phrase.expr (phrase.conj (phrase.neg_comp (phrase.comp_sum (phrase.sum (phrase.prod (phrase.unary_atom phrase.atom_name) phrase.no_times) phrase.no_plus))) phrase.no_and) phrase.no_or
+
+close_joins : Joins (One pieces.CloseParen) EndsExpr Anything
+close_joins us vs One.one follows = close_ends pieces.CloseParen refl
+
+name_in_parens : ExprInParens (pieces.OpenParen ∷ pieces.Name ∷ pieces.CloseParen ∷ [])
+name_in_parens = record {
+  front = pieces.OpenParen ∷ [];
+  back = pieces.Name ∷ pieces.CloseParen ∷ [];
+  whole = refl;
+  is_front = One.one;
+  is_back = record { front = pieces.Name ∷ []; back = pieces.CloseParen ∷ []; whole = refl; is_front = name_is_expr; is_back = One.one };
+}
+
+parens_fits : (depth : ℕ) → NestedFits (parens depth)
+unfolding parens
+parens_fits zero i h = faults_next i pieces.OpenParen ExprInParens (pieces.Name ∷ pieces.CloseParen ∷ []) h name_in_parens
+parens_fits (suc depth) i h =
+    behind_fits i (next i) (One pieces.OpenParen) (Phrase Line.expr · One pieces.CloseParen) Anything Anything ((disj depth (parens depth) >>= (λ x. expect pieces.CloseParen >> pure x)) (next i)) (λ us vs a b. tt)
+    (took_one i (next i) pieces.OpenParen h (refl, refl))
+    (then_fits (next i) (Phrase Line.expr) (One pieces.CloseParen) EndsExpr Anything (disj depth (parens depth) (next i)) (λ x. expect pieces.CloseParen >> pure x) close_joins (one_more pieces.CloseParen)
+        (disj_fits depth (parens depth) (parens_fits depth) (next i)) (λ x j got. close_fits j x))
+
+pub expr_fits : (i : Input) → Fits i (Phrase Line.expr) EndsExpr (expr i)
+unfolding expr without_nodes
+expr_fits i = same_fits i (record i { nodes = 0 }) (Phrase Line.expr) EndsExpr (disj MAX_OPEN (parens MAX_OPEN) (record i { nodes = 0 })) (refl, refl)
+    (disj_fits MAX_OPEN (parens MAX_OPEN) (parens_fits MAX_OPEN) (record i { nodes = 0 }))

@@ -3,3 +3,4 @@ pub mod Steps
 pub mod Turns
 pub mod Chains
 pub mod Phrases
+pub mod Repeats

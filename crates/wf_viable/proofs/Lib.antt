@@ -4,3 +4,4 @@ pub mod Turns
 pub mod Chains
 pub mod Phrases
 pub mod Repeats
+pub mod Declarations

@@ -24,7 +24,7 @@ use Rattle.wf_viable.specs.Charts.{Literal, Sort, Names, Declaration}
 use Rattle.wf_viable.proofs.Fits.{pieces_left, Fits, Productive, Joins, Recasts, recast, recast_all, behind_fits, then_fits, no_longer}
 use Rattle.wf_viable.proofs.Steps.{piece_first, Next, behind_next, Keeps, took_one, stuck_here, then_keeps, same_fits, expect_fits, new_name_fits, unit_fits, event_fits, variable_fits, int_fits, text_fits}
 use Rattle.wf_viable.proofs.Turns.{none_left}
-use Rattle.wf_viable.proofs.Repeats.{some_one, some_then, some_maybe, some_many, Begins, Is, IsNot, one_begins, then_begins, any_joins, begun_joins, maybe_joins, many_joins, nothing_fits, maybe_some, maybe_none, many_more, many_none, one_then, next_then, eat_fits, regroup}
+use Rattle.wf_viable.proofs.Repeats.{some_one, some_then, some_maybe, some_many, Begins, Is, IsNot, one_begins, then_begins, any_joins, begun_joins, maybe_joins, many_joins, nothing_fits, maybe_some, maybe_none, many_more, many_none, one_then, next_then, eat_fits, regroup, shorter}
 
 -- ---- literals
 
@@ -359,13 +359,34 @@ more_behind n found = if found then declarations_from n else pure tt
 
 -- a declaration and more
 one_declared : (i : Input) (p : Piece) (n : ℕ) (r : Parser (Unit {0})) → Next p i → starts_declaration (Some p) ≡ true → Fits i (DeclarationWith p) Anything (r i)
-    → ((j : Input) → length (pieces_left j) ≤ length (pieces_left i) → Fits j (Many Declaration) EndsDeclarations (declarations_from n j))
+    → ((j : Input) → suc (length (pieces_left j)) ≤ length (pieces_left i) → Fits j (Many Declaration) EndsDeclarations (declarations_from n j))
     → Fits i (Many Declaration) EndsDeclarations (and_then ((r >> pure true) i) (more_behind n))
 one_declared i p n r h starts fits rest =
     let declared : Fits i Declaration Anything (r i) =
         recast i (DeclarationWith p) Declaration Anything Anything (r i) (record { wider = declaration_wider p; narrow = λ us vs shaped follows is. (declaration_narrow p us vs shaped (is ∙ h), tt) }) fits in
     let both : Fits i (Declaration · Many Declaration) EndsDeclarations (and_then (r i) (λ _. declarations_from n)) =
         then_fits i Declaration (Many Declaration) Anything EndsDeclarations (r i) (λ _. declarations_from n) (any_joins (Many Declaration) EndsDeclarations) (some_many Declaration) declared
-        (λ x j got. rest j (no_longer i j Declaration Anything (r i) x declared got)) in
+        (λ x j got. rest j (shorter StartsDeclaration Anything Declaration declaration_begins (λ h. cc) i j (r i) x declared got)) in
     subst (Fits i (Many Declaration) EndsDeclarations) (sym (then_assoc (r i) (λ _. pure true) (more_behind n)))
     (many_more StartsDeclaration EndsDeclarations Declaration declaration_begins declaration_apart i (and_then (r i) (λ _. declarations_from n)) (subst StartsDeclaration (sym h) starts) both)
+
+no_declaration : (i : Input) (r : Outcome (Unit {0})) → EndsDeclarations (first (pieces_left i)) → Keeps i r → Fits i (Many Declaration) EndsDeclarations r
+no_declaration i r ends keeps = many_none StartsDeclaration EndsDeclarations Declaration declaration_begins declaration_apart i r (λ h. cc) keeps
+
+declarations_from_fits : (n : ℕ) (i : Input) → length (pieces_left i) ≤ n → Fits i (Many Declaration) EndsDeclarations (declarations_from n i)
+unfolding declarations_from declaration
+declarations_from_fits zero i short = no_declaration i (Ok (tt, i)) (ap (λ x. starts_declaration (first x)) (none_left i short)) (refl, refl)
+declarations_from_fits (suc n) i short = by_piece (piece i) refl (λ j less. declarations_from_fits n j (omega (arith, less, short)))
+  where
+    by_piece : (q : Option Piece) → piece i ≡ q
+        → ((j : Input) → suc (length (pieces_left j)) ≤ length (pieces_left i) → Fits j (Many Declaration) EndsDeclarations (declarations_from n j))
+        → Fits i (Many Declaration) EndsDeclarations (and_then (declaration_by q i) (more_behind n))
+    by_piece (Some pieces.Unit) is rest = let h = sym (piece_first i) ∙ is in one_declared i pieces.Unit n reader.unit h refl (unit_declared i) rest
+    by_piece (Some pieces.Event) is rest = let h = sym (piece_first i) ∙ is in one_declared i pieces.Event n reader.event h refl (event_declared i) rest
+    by_piece (Some pieces.Var) is rest = let h = sym (piece_first i) ∙ is in one_declared i pieces.Var n reader.variable h refl (variable_declared i) rest
+    by_piece (Some pieces.Activity) is rest = let h = sym (piece_first i) ∙ is in one_declared i pieces.Activity n reader.activity h refl (activity_declared i) rest
+    by_piece q is rest = no_declaration i (Ok (tt, i)) (ap starts_declaration (sym (piece_first i) ∙ is)) (refl, refl)
+
+pub declarations_fits : (i : Input) → Fits i (Many Declaration) EndsDeclarations (declarations i)
+unfolding declarations
+declarations_fits i = declarations_from_fits (length i.left) i (let l = length-map i.left (λ t. (lexeme_of i.text t).piece) in omega arith)

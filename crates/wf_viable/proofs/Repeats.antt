@@ -1,5 +1,5 @@
 -- What may be left out, and what may come any number of times: the next piece tells whether it comes.
-use Rattle.std.proofs.Common.{arith, ◌≡◌, ◌≢◌, ℕ, ◌+◌, ◌≤◌, Bool, true, false, if◌then◌else◌, List, [], ◌∷◌, ◌++◌, length, map, Option, Some, None, Ok, Err, refl, sym, ◌∙◌, ap, subst, append_assoc}
+use Rattle.std.proofs.Common.{arith, ◌≡◌, ◌≢◌, ℕ, suc, ◌+◌, ◌≤◌, Bool, true, false, if◌then◌else◌, List, [], ◌∷◌, ◌++◌, length, map, Option, Some, None, Ok, Err, refl, sym, ◌∙◌, ap, subst, append_assoc, length-append}
 use Rattle.wf_cursor.specs.declared.piece.Piece.{Piece}
 use Rattle.wf_cursor.specs.Input.{Input, Outcome, Parser, and_then, ◌>>=◌, next, sees, eat}
 use Rattle.wf_grammar.proofs.Inputs.{sees_piece, piece_sees}
@@ -146,3 +146,16 @@ regroup i L M N F r fits = recast_all i (L · M · N) ((L · M) · N) F r wider 
       is_front = b.is_front;
       is_back = record { front = b.back; back = a.back; whole = refl; is_front = b.is_back; is_back = a.is_back };
     }
+
+-- what is not empty leaves less than there was
+pub shorter : {A : Type 0} (S F : Follow) (L : Shape) → Begins S L → (S None → ⊥) → (i j : Input) (r : Outcome A) (x : A) → Fits i L F r → r ≡ Ok (x, j)
+    → suc (length (pieces_left j)) ≤ length (pieces_left i)
+shorter {A = A} S F L begins never i j r x fits is =
+    let took : Took i j L F = subst (λ (s : Outcome A). Fits i L F s) is fits in
+    let l = length-append took.us (pieces_left j) in
+    let w = ap length took.whole in
+    let some = by_list took.us took.takes.shaped in omega arith
+  where
+    by_list : (us : List Piece) → L us → 1 ≤ length us
+    by_list [] shaped = absurd (never (begins [] [] shaped))
+    by_list (p ∷ us) shaped = omega arith

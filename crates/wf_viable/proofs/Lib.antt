@@ -5,3 +5,4 @@ pub mod Chains
 pub mod Phrases
 pub mod Repeats
 pub mod Declarations
+pub mod Transitions

@@ -6,3 +6,5 @@ pub mod Phrases
 pub mod Repeats
 pub mod Declarations
 pub mod Transitions
+pub mod States
+pub mod Whole

@@ -8,3 +8,4 @@ pub mod Declarations
 pub mod Transitions
 pub mod States
 pub mod Whole
+pub mod Places

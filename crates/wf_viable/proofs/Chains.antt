@@ -1,12 +1,12 @@
 -- The lines of expressions that are chains, as what chains are made of.
-use Rattle.std.proofs.Common.{◌≡◌, ◌⊎◌, inl, inr, List, [], ◌∷◌, ◌++◌, Option, Some, None, refl, sym, ◌∙◌, ap, subst, append_assoc, append-nil}
+use Rattle.std.proofs.Common.{◌≡◌, ◌⊎◌, inl, inr, List, [], ◌∷◌, ◌++◌, Some, refl, sym, ◌∙◌, ap, subst, append_assoc, append-nil}
 use Rattle.wf_model.specs.declared.expr.Op.{Op}
 use Rattle.wf_cursor.specs.declared.piece.Piece.{Piece}
 use Rattle.wf_cursor.specs.declared.piece.Piece.TheVariants as pieces
 use Rattle.wf_phrase.specs.Operators.{or_operator, and_operator, comparison, sum_operator, product_operator}
 use Rattle.wf_grammar.specs.Phrases.{Rank, sign_of, line_of}
 use Rattle.wf_grammar.proofs.Tables.{or_has_sign, and_has_sign, comparison_has_sign, sum_has_sign, product_has_sign, or_found, and_found, comparison_found, sum_found, product_found}
-use Rattle.wf_viable.specs.Shapes.{Shape, first, Then, ◌·◌}
+use Rattle.wf_viable.specs.Shapes.{first, ◌·◌}
 use Rattle.wf_viable.specs.Expressions as phrase
 use Rattle.wf_viable.specs.Expressions.{Line, Phrase}
 use Rattle.wf_viable.proofs.Turns.{Table, Turns, Turned}

@@ -1,5 +1,5 @@
 -- Declarations take what their shapes say, and tell a fault of syntax at the first piece that fits none.
-use Rattle.std.proofs.Common.{arith, ◌≡◌, ◌≢◌, ℕ, zero, suc, ◌+◌, ◌≤◌, Bool, true, false, if◌then◌else◌, List, [], ◌∷◌, ◌++◌, length, map, Option, Some, None, Ok, Err, refl, sym, ◌∙◌, ap, subst, pos, neg_ℤ}
+use Rattle.std.proofs.Common.{arith, ◌≡◌, ℕ, zero, suc, ◌+◌, ◌≤◌, Bool, true, false, if◌then◌else◌, List, [], ◌∷◌, ◌++◌, length, Option, Some, None, Ok, refl, sym, ◌∙◌, ap, subst, pos, neg_ℤ}
 use Rattle.std.proofs.lemmas.List.{length-map}
 use Rattle.wf_model.specs.declared.ids.UnitId.{UnitId}
 use Rattle.wf_model.specs.declared.ids.VarId.{VarId}
@@ -18,13 +18,12 @@ use Rattle.wf_grammar.specs.Lexemes.{lexeme_of}
 use Rattle.wf_grammar.proofs.Inputs.{then_assoc}
 use Rattle.wf_grammar.proofs.Reading.{Follow}
 use Rattle.wf_grammar.proofs.Follows.{Anything}
-use Rattle.wf_viable.specs.Shapes.{Shape, first, One, Then, Maybe, Many, ◌·◌}
-use Rattle.wf_viable.specs.Charts as shape
+use Rattle.wf_viable.specs.Shapes.{Shape, first, One, Maybe, Many, ◌·◌}
 use Rattle.wf_viable.specs.Charts.{Literal, Sort, Names, Declaration}
-use Rattle.wf_viable.proofs.Fits.{pieces_left, Fits, Productive, Joins, Recasts, recast, recast_all, behind_fits, then_fits, no_longer}
-use Rattle.wf_viable.proofs.Steps.{piece_first, Next, behind_next, Keeps, took_one, stuck_here, then_keeps, same_fits, expect_fits, new_name_fits, unit_fits, event_fits, variable_fits, int_fits, text_fits}
+use Rattle.wf_viable.proofs.Fits.{pieces_left, Fits, Productive, Joins, recast, follows_less, then_fits, no_longer}
+use Rattle.wf_viable.proofs.Steps.{piece_first, Next, behind_next, Keeps, took_one, stuck_here, then_keeps, expect_fits, new_name_fits, unit_fits, variable_fits, int_fits, text_fits}
 use Rattle.wf_viable.proofs.Turns.{none_left}
-use Rattle.wf_viable.proofs.Repeats.{some_one, some_then, some_maybe, some_many, Begins, Is, IsNot, one_begins, then_begins, any_joins, begun_joins, maybe_joins, many_joins, nothing_fits, maybe_some, maybe_none, many_more, many_none, one_then, next_then, eat_fits, regroup, shorter}
+use Rattle.wf_viable.proofs.Repeats.{some_one, some_then, some_maybe, some_many, Begins, Is, IsNot, any_joins, maybe_some, maybe_none, many_more, many_none, one_then, next_then, eat_fits, regroup, shorter, begins_with, is_apart, word_took}
 
 -- ---- literals
 
@@ -71,7 +70,7 @@ literal_by_fits i pieces.Int h = literal_with i pieces.Int (number i) h
     (then_keeps i (One pieces.Int) Anything (input.int i) (λ n. pure (v.Int (pos n))) (int_fits i MAX_INT) (λ x j. (refl, refl)))
 literal_by_fits i pieces.Minus h = literal_with i pieces.Minus (negated i) h
     (next_then i pieces.Minus (One pieces.Int) Anything (negated i) h
-        (then_keeps (next i) (One pieces.Int) Anything (input.negated_int (next i)) (λ n. pure (v.Int (neg_ℤ (pos n)))) (int_fits (next i) (MAX_INT + 1)) (λ x j. (refl, refl))))
+    (then_keeps (next i) (One pieces.Int) Anything (input.negated_int (next i)) (λ n. pure (v.Int (neg_ℤ (pos n)))) (int_fits (next i) (MAX_INT + 1)) (λ x j. (refl, refl))))
 literal_by_fits i pieces.Text h = literal_with i pieces.Text (characters i) h
     (then_keeps i (One pieces.Text) Anything (input.text i) (λ t. pure (v.Text t)) (text_fits i) (λ x j. (refl, refl)))
 literal_by_fits i p h = stuck_here i Literal Anything some_literal (λ us vs shaped follows is. literal_narrow p us vs shaped (is ∙ h))
@@ -95,15 +94,6 @@ literal_fits i = by_piece (piece i) refl
 
 some_sort : Productive Sort
 some_sort = record { pieces = pieces.BoolSort ∷ []; shaped = Sort.sort_bool }
-
--- a word of one piece, of several
-word_took : {A : Type 0} (i : Input) (p : Piece) (L : Shape) (x : A) → Next p i → L (p ∷ []) → ((us vs : List Piece) → L us → first (us ++ vs) ≡ Some p → One p us)
-    → Fits i L Anything (Ok (x, next i))
-word_took i p L x h shaped only =
-    recast i (One p) L Anything Anything (Ok (x, next i)) (record { wider = wider; narrow = λ us vs shaped' follows is. (only us vs shaped' (is ∙ h), tt) }) (took_one i (next i) p h (refl, refl))
-  where
-    wider : (us : List Piece) → One p us → L us
-    wider us One.one = shaped
 
 sort_is : (p : Piece) (us vs : List Piece) → Sort us → first (us ++ vs) ≡ Some p → One p us
 sort_is p us vs Sort.sort_bool is = let same : pieces.BoolSort ≡ p = cc in subst (λ q. One q (pieces.BoolSort ∷ [])) same One.one
@@ -139,20 +129,16 @@ abbrev GivesNames : Shape
 GivesNames = One pieces.Gives · Names
 
 at_begins : Begins (Is pieces.At) AtUnit
-at_begins = then_begins (Is pieces.At) (One pieces.At) (One pieces.Name) (one_begins pieces.At)
-
-is_apart : (p : Piece) (q : Option Piece) → Is p q → IsNot p q → ⊥
-is_apart p q h no_such = no_such h
+at_begins = begins_with pieces.At (One pieces.Name)
 
 -- [ at UNIT ]
 placed_fits : (i : Input) → Fits i (Maybe AtUnit) (IsNot pieces.At) (reader.placed i)
 unfolding reader.placed
 placed_fits i = eat_fits i pieces.At (Maybe AtUnit) (IsNot pieces.At) (λ found. if found then (input.unit >>= (λ u. pure (Some u))) else pure None)
     (λ h. maybe_some (Is pieces.At) (IsNot pieces.At) AtUnit at_begins (is_apart pieces.At) i ((input.unit >>= (λ u. pure (Some u))) (next i)) h
-        (next_then i pieces.At (One pieces.Name) (IsNot pieces.At) ((input.unit >>= (λ u. pure (Some u))) (next i)) h
-            (recast (next i) (One pieces.Name) (One pieces.Name) Anything (IsNot pieces.At) ((input.unit >>= (λ u. pure (Some u))) (next i))
-                (record { wider = λ us a. a; narrow = λ us vs a b c. (a, tt) })
-                (then_keeps (next i) (One pieces.Name) Anything (input.unit (next i)) (λ u. pure (Some u)) (unit_fits (next i)) (λ x j. (refl, refl))))))
+    (next_then i pieces.At (One pieces.Name) (IsNot pieces.At) ((input.unit >>= (λ u. pure (Some u))) (next i)) h
+    (follows_less (next i) (One pieces.Name) Anything (IsNot pieces.At) ((input.unit >>= (λ u. pure (Some u))) (next i)) (λ q a. tt)
+    (then_keeps (next i) (One pieces.Name) Anything (input.unit (next i)) (λ u. pure (Some u)) (unit_fits (next i)) (λ x j. (refl, refl))))))
     (λ absent. maybe_none (Is pieces.At) (IsNot pieces.At) AtUnit at_begins (is_apart pieces.At) {A = Option UnitId} i (Ok (None, i)) absent (refl, refl))
 
 -- { , VAR }
@@ -160,7 +146,7 @@ abbrev MoreNames : Shape
 MoreNames = One pieces.Comma · One pieces.Name
 
 comma_begins : Begins (Is pieces.Comma) MoreNames
-comma_begins = then_begins (Is pieces.Comma) (One pieces.Comma) (One pieces.Name) (one_begins pieces.Comma)
+comma_begins = begins_with pieces.Comma (One pieces.Name)
 
 outputs_from_fits : (n : ℕ) (i : Input) (found : List VarId) → length (pieces_left i) ≤ n → Fits i (Many MoreNames) (IsNot pieces.Comma) (outputs_from n found i)
 unfolding outputs_from
@@ -169,16 +155,16 @@ outputs_from_fits zero i found short =
 outputs_from_fits (suc n) i found short =
     eat_fits i pieces.Comma (Many MoreNames) (IsNot pieces.Comma) (λ more. if more then (input.variable >>= (λ x. outputs_from n (found ++ x ∷ []))) else pure found)
     (λ h.
-        let b = behind_next i pieces.Comma h in
-        let w = ap length b.whole in
-        let k = next i in
-        let r = (input.variable >>= (λ x. outputs_from n (found ++ x ∷ []))) k in
-        many_more (Is pieces.Comma) (IsNot pieces.Comma) MoreNames comma_begins (is_apart pieces.Comma) i r h
-        (regroup i (One pieces.Comma) (One pieces.Name) (Many MoreNames) (IsNot pieces.Comma) r
-            (next_then i pieces.Comma (One pieces.Name · Many MoreNames) (IsNot pieces.Comma) r h
-                (then_fits k (One pieces.Name) (Many MoreNames) Anything (IsNot pieces.Comma) (input.variable k) (λ x. outputs_from n (found ++ x ∷ [])) (any_joins (Many MoreNames) (IsNot pieces.Comma))
-                    (some_many MoreNames) (variable_fits k)
-                    (λ x j got. outputs_from_fits n j (found ++ x ∷ []) (let l = no_longer k j (One pieces.Name) Anything (input.variable k) x (variable_fits k) got in omega arith))))))
+    let b = behind_next i pieces.Comma h in
+    let w = ap length b.whole in
+    let k = next i in
+    let r = (input.variable >>= (λ x. outputs_from n (found ++ x ∷ []))) k in
+    many_more (Is pieces.Comma) (IsNot pieces.Comma) MoreNames comma_begins (is_apart pieces.Comma) i r h
+    (regroup i (One pieces.Comma) (One pieces.Name) (Many MoreNames) (IsNot pieces.Comma) r
+    (next_then i pieces.Comma (One pieces.Name · Many MoreNames) (IsNot pieces.Comma) r h
+    (then_fits k (One pieces.Name) (Many MoreNames) Anything (IsNot pieces.Comma) (input.variable k) (λ x. outputs_from n (found ++ x ∷ [])) (any_joins (Many MoreNames) (IsNot pieces.Comma))
+    (some_many MoreNames) (variable_fits k)
+    (λ x j got. outputs_from_fits n j (found ++ x ∷ []) (let l = no_longer k j (One pieces.Name) Anything (input.variable k) x (variable_fits k) got in omega arith))))))
     (λ absent. many_none (Is pieces.Comma) (IsNot pieces.Comma) MoreNames comma_begins (is_apart pieces.Comma) i (Ok (found, i)) absent (refl, refl))
 
 outputs_fits : (i : Input) → Fits i Names (IsNot pieces.Comma) (outputs i)
@@ -191,7 +177,7 @@ abbrev EndsOutputs : Follow
 EndsOutputs q = IsNot pieces.Comma q × IsNot pieces.Gives q
 
 gives_begins : Begins (Is pieces.Gives) GivesNames
-gives_begins = then_begins (Is pieces.Gives) (One pieces.Gives) Names (one_begins pieces.Gives)
+gives_begins = begins_with pieces.Gives Names
 
 gives_apart : (q : Option Piece) → Is pieces.Gives q → EndsOutputs q → ⊥
 gives_apart q h ends = ends.1 h
@@ -201,8 +187,8 @@ given_fits : (i : Input) → Fits i (Maybe GivesNames) EndsOutputs (reader.given
 unfolding reader.given
 given_fits i = eat_fits i pieces.Gives (Maybe GivesNames) EndsOutputs (λ found. if found then outputs else pure [])
     (λ h. maybe_some (Is pieces.Gives) EndsOutputs GivesNames gives_begins gives_apart i (outputs (next i)) h
-        (next_then i pieces.Gives Names EndsOutputs (outputs (next i)) h
-            (recast (next i) Names Names (IsNot pieces.Comma) EndsOutputs (outputs (next i)) (record { wider = λ us a. a; narrow = λ us vs a b c. (a, b.0) }) (outputs_fits (next i)))))
+    (next_then i pieces.Gives Names EndsOutputs (outputs (next i)) h
+    (follows_less (next i) Names (IsNot pieces.Comma) EndsOutputs (outputs (next i)) (λ q a. a.0) (outputs_fits (next i)))))
     (λ absent. maybe_none (Is pieces.Gives) EndsOutputs GivesNames gives_begins gives_apart {A = List VarId} i (Ok ([], i)) absent (refl, refl))
 
 -- ---- declarations
@@ -218,7 +204,7 @@ unfolding reader.unit with_unit
 unit_declared i =
     one_then i pieces.Unit (One pieces.Name · One pieces.Semicolon) Anything (expect pieces.Unit i) _ (some_then (One pieces.Name) (One pieces.Semicolon) (some_one pieces.Name) ends_semicolon) (expect_fits i pieces.Unit)
     (λ x j. one_then j pieces.Name (One pieces.Semicolon) Anything (new_name (declared_as_a.Unit (next_unit j)) j) _ ends_semicolon (new_name_fits j (declared_as_a.Unit (next_unit j)))
-        (λ name k. then_keeps k (One pieces.Semicolon) Anything (expect pieces.Semicolon k) _ (expect_fits k pieces.Semicolon) (λ y m. (refl, refl))))
+    (λ name k. then_keeps k (One pieces.Semicolon) Anything (expect pieces.Semicolon k) _ (expect_fits k pieces.Semicolon) (λ y m. (refl, refl))))
 
 abbrev EventDeclared : Shape
 EventDeclared = One pieces.Event · One pieces.Name · Maybe AtUnit · One pieces.Semicolon
@@ -232,8 +218,8 @@ event_declared i =
     one_then i pieces.Event (One pieces.Name · Maybe AtUnit · One pieces.Semicolon) Anything (expect pieces.Event i) _
     (some_then (One pieces.Name) (Maybe AtUnit · One pieces.Semicolon) (some_one pieces.Name) placed_and_ends) (expect_fits i pieces.Event)
     (λ x j. one_then j pieces.Name (Maybe AtUnit · One pieces.Semicolon) Anything (new_name (declared_as_a.Event (next_event j)) j) _ placed_and_ends (new_name_fits j (declared_as_a.Event (next_event j)))
-        (λ name k. then_fits k (Maybe AtUnit) (One pieces.Semicolon) (IsNot pieces.At) Anything (reader.placed k) _ (semicolon_joins (IsNot pieces.At) (λ h. cc)) ends_semicolon (placed_fits k)
-            (λ u m got. then_keeps m (One pieces.Semicolon) Anything (expect pieces.Semicolon m) _ (expect_fits m pieces.Semicolon) (λ y n. (refl, refl)))))
+    (λ name k. then_fits k (Maybe AtUnit) (One pieces.Semicolon) (IsNot pieces.At) Anything (reader.placed k) _ (semicolon_joins (IsNot pieces.At) (λ h. cc)) ends_semicolon (placed_fits k)
+    (λ u m got. then_keeps m (One pieces.Semicolon) Anything (expect pieces.Semicolon m) _ (expect_fits m pieces.Semicolon) (λ y n. (refl, refl)))))
   where
     placed_and_ends : Productive (Maybe AtUnit · One pieces.Semicolon)
     placed_and_ends = some_then (Maybe AtUnit) (One pieces.Semicolon) (some_maybe AtUnit) ends_semicolon
@@ -262,11 +248,11 @@ variable_declared i =
     one_then i pieces.Var (One pieces.Name · One pieces.Colon · Sort · ValueEnds) Anything (expect pieces.Var i) _
     (some_then (One pieces.Name) (One pieces.Colon · Sort · ValueEnds) (some_one pieces.Name) colon_and_value) (expect_fits i pieces.Var)
     (λ x j. one_then j pieces.Name (One pieces.Colon · Sort · ValueEnds) Anything (new_name (declared_as_a.Var (next_var j)) j) _ colon_and_value (new_name_fits j (declared_as_a.Var (next_var j)))
-        (λ name k. one_then k pieces.Colon (Sort · ValueEnds) Anything (expect pieces.Colon k) _ sort_and_value (expect_fits k pieces.Colon)
-            (λ y m. then_fits m Sort ValueEnds Anything Anything (sort m) _ (any_joins ValueEnds Anything) value_ends (sort_fits m)
-                (λ kind n got. one_then n pieces.Equal (Literal · One pieces.Semicolon) Anything (expect pieces.Equal n) _ literal_and_ends (expect_fits n pieces.Equal)
-                    (λ z o. then_fits o Literal (One pieces.Semicolon) Anything Anything (literal o) _ (any_joins (One pieces.Semicolon) Anything) ends_semicolon (literal_fits o)
-                        (λ value l got'. then_keeps l (One pieces.Semicolon) Anything (expect pieces.Semicolon l) _ (expect_fits l pieces.Semicolon) (λ a b. (refl, refl))))))))
+    (λ name k. one_then k pieces.Colon (Sort · ValueEnds) Anything (expect pieces.Colon k) _ sort_and_value (expect_fits k pieces.Colon)
+    (λ y m. then_fits m Sort ValueEnds Anything Anything (sort m) _ (any_joins ValueEnds Anything) value_ends (sort_fits m)
+    (λ kind n got. one_then n pieces.Equal (Literal · One pieces.Semicolon) Anything (expect pieces.Equal n) _ literal_and_ends (expect_fits n pieces.Equal)
+    (λ z o. then_fits o Literal (One pieces.Semicolon) Anything Anything (literal o) _ (any_joins (One pieces.Semicolon) Anything) ends_semicolon (literal_fits o)
+    (λ value l got'. then_keeps l (One pieces.Semicolon) Anything (expect pieces.Semicolon l) _ (expect_fits l pieces.Semicolon) (λ a b. (refl, refl))))))))
 
 abbrev ActivityDeclared : Shape
 ActivityDeclared = One pieces.Activity · One pieces.Name · One pieces.At · One pieces.Name · Maybe GivesNames · One pieces.Semicolon
@@ -286,11 +272,11 @@ activity_declared i =
     one_then i pieces.Activity (One pieces.Name · One pieces.At · One pieces.Name · Maybe GivesNames · One pieces.Semicolon) Anything (expect pieces.Activity i) _
     (some_then (One pieces.Name) (One pieces.At · One pieces.Name · Maybe GivesNames · One pieces.Semicolon) (some_one pieces.Name) at_unit_and_ends) (expect_fits i pieces.Activity)
     (λ x j. one_then j pieces.Name (One pieces.At · One pieces.Name · Maybe GivesNames · One pieces.Semicolon) Anything (new_name (declared_as_a.Activity (next_act j)) j) _ at_unit_and_ends
-        (new_name_fits j (declared_as_a.Activity (next_act j)))
-        (λ name k. one_then k pieces.At (One pieces.Name · Maybe GivesNames · One pieces.Semicolon) Anything (expect pieces.At k) _ unit_and_ends (expect_fits k pieces.At)
-            (λ y m. one_then m pieces.Name (Maybe GivesNames · One pieces.Semicolon) Anything (input.unit m) _ gives_and_ends (unit_fits m)
-                (λ u n. then_fits n (Maybe GivesNames) (One pieces.Semicolon) EndsOutputs Anything (reader.given n) _ (semicolon_joins EndsOutputs ((λ h. cc), (λ h. cc))) ends_semicolon (given_fits n)
-                    (λ found l got. then_keeps l (One pieces.Semicolon) Anything (expect pieces.Semicolon l) _ (expect_fits l pieces.Semicolon) (λ a b. (refl, refl)))))))
+    (new_name_fits j (declared_as_a.Activity (next_act j)))
+    (λ name k. one_then k pieces.At (One pieces.Name · Maybe GivesNames · One pieces.Semicolon) Anything (expect pieces.At k) _ unit_and_ends (expect_fits k pieces.At)
+    (λ y m. one_then m pieces.Name (Maybe GivesNames · One pieces.Semicolon) Anything (input.unit m) _ gives_and_ends (unit_fits m)
+    (λ u n. then_fits n (Maybe GivesNames) (One pieces.Semicolon) EndsOutputs Anything (reader.given n) _ (semicolon_joins EndsOutputs ((λ h. cc), (λ h. cc))) ends_semicolon (given_fits n)
+    (λ found l got. then_keeps l (One pieces.Semicolon) Anything (expect pieces.Semicolon l) _ (expect_fits l pieces.Semicolon) (λ a b. (refl, refl)))))))
 
 -- ---- any number of declarations
 
@@ -322,9 +308,6 @@ declaration_wider pieces.Event us shaped = Declaration.event shaped
 declaration_wider pieces.Var us shaped = Declaration.variable shaped
 declaration_wider pieces.Activity us shaped = Declaration.activity shaped
 declaration_wider _ us shaped = absurd shaped
-
-begins_with : (p : Piece) (M : Shape) → Begins (Is p) (One p · M)
-begins_with p M = then_begins (Is p) (One p) M (one_begins p)
 
 declaration_narrow : (p : Piece) (us vs : List Piece) → Declaration us → first (us ++ vs) ≡ Some p → DeclarationWith p us
 declaration_narrow p us vs (Declaration.unit shaped) is =
@@ -363,10 +346,10 @@ one_declared : (i : Input) (p : Piece) (n : ℕ) (r : Parser (Unit {0})) → Nex
     → Fits i (Many Declaration) EndsDeclarations (and_then ((r >> pure true) i) (more_behind n))
 one_declared i p n r h starts fits rest =
     let declared : Fits i Declaration Anything (r i) =
-        recast i (DeclarationWith p) Declaration Anything Anything (r i) (record { wider = declaration_wider p; narrow = λ us vs shaped follows is. (declaration_narrow p us vs shaped (is ∙ h), tt) }) fits in
+    recast i (DeclarationWith p) Declaration Anything Anything (r i) (record { wider = declaration_wider p; narrow = λ us vs shaped follows is. (declaration_narrow p us vs shaped (is ∙ h), tt) }) fits in
     let both : Fits i (Declaration · Many Declaration) EndsDeclarations (and_then (r i) (λ _. declarations_from n)) =
-        then_fits i Declaration (Many Declaration) Anything EndsDeclarations (r i) (λ _. declarations_from n) (any_joins (Many Declaration) EndsDeclarations) (some_many Declaration) declared
-        (λ x j got. rest j (shorter StartsDeclaration Anything Declaration declaration_begins (λ h. cc) i j (r i) x declared got)) in
+    then_fits i Declaration (Many Declaration) Anything EndsDeclarations (r i) (λ _. declarations_from n) (any_joins (Many Declaration) EndsDeclarations) (some_many Declaration) declared
+    (λ x j got. rest j (shorter StartsDeclaration Anything Declaration declaration_begins (λ h. cc) i j (r i) x declared got)) in
     subst (Fits i (Many Declaration) EndsDeclarations) (sym (then_assoc (r i) (λ _. pure true) (more_behind n)))
     (many_more StartsDeclaration EndsDeclarations Declaration declaration_begins declaration_apart i (and_then (r i) (λ _. declarations_from n)) (subst StartsDeclaration (sym h) starts) both)
 

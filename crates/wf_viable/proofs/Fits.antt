@@ -1,12 +1,11 @@
 -- What the outcome of a rule says of the pieces that it looked at, and that this holds of two rules one behind the other.
-use Rattle.std.proofs.Common.{arith, ◌≡◌, ◌≢◌, ◌≤◌, ℕ, ◌+◌, List, [], ◌∷◌, ◌++◌, length, map, Option, Some, None, Ok, Err, refl, sym, ◌∙◌, ap, subst, append_assoc, length-append}
-use Rattle.wf_lex.specs.declared.token.Token.{Token}
+use Rattle.std.proofs.Common.{arith, ◌≡◌, ◌≤◌, ℕ, ◌+◌, List, [], ◌∷◌, ◌++◌, length, map, Option, Ok, Err, refl, sym, ◌∙◌, ap, subst, append_assoc, length-append}
 use Rattle.wf_cursor.specs.declared.fault.TextFault.TheVariants as fault
 use Rattle.wf_cursor.specs.declared.piece.Piece.{Piece}
 use Rattle.wf_cursor.specs.Input.{Input, Outcome, Parser, and_then}
 use Rattle.wf_grammar.specs.Lexemes.{lexeme_of}
 use Rattle.wf_grammar.proofs.Reading.{Follow}
-use Rattle.wf_viable.specs.Shapes.{Shape, first, Then, ◌·◌}
+use Rattle.wf_viable.specs.Shapes.{Shape, first, ◌·◌}
 
 -- the pieces that are left
 abbrev pub pieces_left : Input → List Piece

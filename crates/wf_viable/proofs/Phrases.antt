@@ -1,5 +1,5 @@
 -- The rules of expressions take the phrases of their lines, and tell a fault of syntax at the first piece that fits none.
-use Rattle.std.proofs.Common.{arith, ◌≡◌, ◌≢◌, ℕ, zero, suc, ◌+◌, ◌≤◌, Bool, true, false, if◌then◌else◌, ◌⊎◌, inl, inr, List, [], ◌∷◌, ◌++◌, length, map, Option, Some, None, Ok, Err, refl, sym, ◌∙◌, ap, subst, append_assoc, append-nil}
+use Rattle.std.proofs.Common.{arith, ◌≡◌, ℕ, zero, suc, ◌≤◌, Bool, true, false, List, [], ◌∷◌, ◌++◌, length, Option, Some, None, refl, sym, ◌∙◌, ap, subst}
 use Rattle.std.proofs.lemmas.List.{length-map}
 use Rattle.wf_model.specs.declared.limits.TheConstants.{MAX_OPEN, MAX_INT}
 use Rattle.wf_model.specs.declared.expr.Op.{Op}
@@ -10,18 +10,17 @@ use Rattle.wf_cursor.specs.declared.piece.Piece.TheVariants as pieces
 use Rattle.wf_cursor.specs.Input as input
 use Rattle.wf_cursor.specs.Input.{Input, Outcome, Parser, and_then, ◌>>=◌, ◌>>◌, pure, take, syntax, oversize, piece, sees, next, node, expect, without_nodes}
 use Rattle.wf_phrase.specs.Operators.{or_operator, and_operator, comparison, sum_operator, product_operator}
-use Rattle.wf_phrase.specs.Expressions.{open_paren, activity_inside, truth, number, characters, variable, in_state, count_of, done_of, chain_by, chain, atom_by, atom, unary_from, unary, prod, sum, comp_by, comp, neg_from, neg, conj, disj, parens, expr}
+use Rattle.wf_phrase.specs.Expressions.{open_paren, activity_inside, truth, number, characters, variable, in_state, count_of, done_of, chain_by, chain, atom_by, atom, unary_from, unary, prod, sum, comp, neg_from, neg, conj, disj, parens, expr}
 use Rattle.wf_grammar.specs.Lexemes.{lexeme_of}
-use Rattle.wf_grammar.specs.Phrases.{Rank, sign_of, line_of}
-use Rattle.wf_grammar.proofs.Reading.{Follow}
+use Rattle.wf_grammar.specs.Phrases.{Rank}
 use Rattle.wf_grammar.proofs.Follows.{Anything, EndsProd, EndsSum, EndsComp, EndsConj, EndsExpr, sum_ends, comparison_ends, and_ends, or_ends, close_ends}
-use Rattle.wf_grammar.proofs.Tables.{or_has_sign, and_has_sign, comparison_has_sign, sum_has_sign, product_has_sign, or_found, and_found, comparison_found, sum_found, product_found}
-use Rattle.wf_viable.specs.Shapes.{Shape, first, One, Then, ◌·◌}
+use Rattle.wf_viable.specs.Shapes.{Shape, first, One, ◌·◌}
 use Rattle.wf_viable.specs.Expressions.{Line, Phrase}
 use Rattle.wf_viable.specs.Expressions as phrase
-use Rattle.wf_viable.proofs.Fits.{pieces_left, Fits, Parts, Productive, Joins, Recasts, recast, recast_all, follows_less, behind_fits, then_fits}
+use Rattle.wf_viable.proofs.Fits.{pieces_left, Fits, Productive, Joins, recast, recast_all, then_fits}
 use Rattle.wf_viable.proofs.Steps.{piece_first, Next, behind_next, took_one, took_none, stuck_here, faults_next, by_seeing, node_then, with_node, then_keeps, same_fits, expect_fits, variable_fits, state_fits, activity_fits, int_fits, text_fits, open_paren_fits}
-use Rattle.wf_viable.proofs.Turns.{EndsAll, none_left, turn_fits, tail_joins, chain_fits}
+use Rattle.wf_viable.proofs.Repeats.{some_one, some_then, one_then, next_then}
+use Rattle.wf_viable.proofs.Turns.{none_left, turn_fits, tail_joins, chain_fits}
 use Rattle.wf_viable.proofs.Chains.{or_table, and_table, comparison_table, sum_table, product_table, or_turns, and_turns, sum_turns, product_turns, comparison_turns, Compared, Empty, expr_wider, expr_narrower, conj_wider, conj_narrower, sum_wider, sum_narrower, prod_wider, prod_narrower, comp_wider, comp_narrower, comp_with_not}
 
 -- ---- atoms
@@ -64,8 +63,10 @@ is_test p us both = both.whole ∙ by_one both.front both.back both.is_front bot
   where
     by_three : (a b : List Piece) → One pieces.Name a → One pieces.CloseParen b → a ++ b ≡ pieces.Name ∷ pieces.CloseParen ∷ []
     by_three a b One.one One.one = refl
+
     by_two : (a b : List Piece) → One pieces.OpenParen a → (One pieces.Name · One pieces.CloseParen) b → a ++ b ≡ pieces.OpenParen ∷ pieces.Name ∷ pieces.CloseParen ∷ []
     by_two a b One.one both' = ap (λ x. pieces.OpenParen ∷ x) (both'.whole ∙ by_three both'.front both'.back both'.is_front both'.is_back)
+
     by_one : (a b : List Piece) → One p a → InParens b → a ++ b ≡ p ∷ pieces.OpenParen ∷ pieces.Name ∷ pieces.CloseParen ∷ []
     by_one a b One.one both' = ap (λ x. p ∷ x) (both'.whole ∙ by_two both'.front both'.back both'.is_front both'.is_back)
 
@@ -74,6 +75,7 @@ is_in_parens us both = subst (Phrase Line.atom) (sym both.whole) (by_one both.fr
   where
     by_close : (a b : List Piece) → Phrase Line.expr a → One pieces.CloseParen b → Phrase Line.atom (pieces.OpenParen ∷ (a ++ b))
     by_close a b shaped One.one = phrase.atom_expr shaped
+
     by_one : (a b : List Piece) → One pieces.OpenParen a → (Phrase Line.expr · One pieces.CloseParen) b → Phrase Line.atom (a ++ b)
     by_one a b One.one both' = subst (λ x. Phrase Line.atom (pieces.OpenParen ∷ x)) (sym both'.whole) (by_close both'.front both'.back both'.is_front both'.is_back)
 
@@ -134,17 +136,13 @@ unfolding variable
 variable_atom_fits i h = node_then i pieces.Name [] (One pieces.Name) Anything (input.variable >>= (λ x. pure (e.Var x))) h One.one
     (then_keeps (with_node i) (One pieces.Name) Anything (input.variable (with_node i)) (λ x. pure (e.Var x)) (variable_fits (with_node i)) (λ x j. (refl, refl)))
 
-one_more : (p : Piece) → Productive (One p)
-one_more p = record { pieces = p ∷ []; shaped = One.one }
-
 -- ( NAME ), whatever the name is to be
 inside_fits : {A B : Type 0} (i : Input) (depth : ℕ) (named : Parser A) (f : A → Parser B) → ((k : Input) → Fits k (One pieces.Name) Anything (named k))
     → ((x : A) (k : Input) → Fits k (One pieces.CloseParen) Anything (f x k)) → Fits i InParens Anything ((open_paren depth >> (named >>= f)) i)
 inside_fits i depth named f named_fits f_fits =
-    then_fits i (One pieces.OpenParen) (One pieces.Name · One pieces.CloseParen) Anything Anything (open_paren depth i) (λ _. named >>= f) (λ us vs a b. tt)
-    (record { pieces = pieces.Name ∷ pieces.CloseParen ∷ []; shaped = record { front = pieces.Name ∷ []; back = pieces.CloseParen ∷ []; whole = refl; is_front = One.one; is_back = One.one } })
-    (open_paren_fits i depth)
-    (λ x j got. then_fits j (One pieces.Name) (One pieces.CloseParen) Anything Anything (named j) f (λ us vs a b. tt) (one_more pieces.CloseParen) (named_fits j) (λ y k got'. f_fits y k))
+    one_then i pieces.OpenParen (One pieces.Name · One pieces.CloseParen) Anything (open_paren depth i) (λ _. named >>= f)
+    (some_then (One pieces.Name) (One pieces.CloseParen) (some_one pieces.Name) (some_one pieces.CloseParen)) (open_paren_fits i depth)
+    (λ x j. one_then j pieces.Name (One pieces.CloseParen) Anything (named j) f (some_one pieces.CloseParen) (named_fits j) f_fits)
 
 close_fits : {A : Type 0} (i : Input) (a : A) → Fits i (One pieces.CloseParen) Anything ((expect pieces.CloseParen >> pure a) i)
 close_fits i a = then_keeps i (One pieces.CloseParen) Anything (expect pieces.CloseParen i) (λ _. pure a) (expect_fits i pieces.CloseParen) (λ x j. (refl, refl))
@@ -154,7 +152,7 @@ test_fits : {A : Type 0} (i : Input) (p : Piece) (f : Parser A) → Next p i →
 test_fits i p f h fits =
     let k = with_node i in
     node_then i p (pieces.OpenParen ∷ pieces.Name ∷ pieces.CloseParen ∷ []) (One p · InParens) Anything (take >> f) h (test_in_parens p)
-    (behind_fits k (next k) (One p) InParens Anything Anything (f (next k)) (λ us vs a b. tt) (took_one k (next k) p h (refl, refl)) (fits (next k)))
+    (next_then k p InParens Anything (f (next k)) h (fits (next k)))
 
 in_state_fits : (i : Input) (depth : ℕ) → Next pieces.In i → Fits i (One pieces.In · InParens) Anything (in_state depth i)
 unfolding in_state
@@ -233,8 +231,10 @@ module _ (depth : ℕ) (nested : Parser Expr) (nested_fits : NestedFits nested) 
     where
       by_one : (a b : List Piece) → One pieces.Minus a → Phrase Line.unary b → Phrase Line.unary (a ++ b)
       by_one a b One.one shaped = phrase.minus shaped
+
       wider : (us : List Piece) → (One pieces.Minus · Phrase Line.unary) us → Phrase Line.unary us
       wider us both = subst (Phrase Line.unary) (sym both.whole) (by_one both.front both.back both.is_front both.is_back)
+
       narrow : (us vs : List Piece) → Phrase Line.unary us → Anything (first vs) → first (us ++ vs) ≡ first (pieces_left i) → (One pieces.Minus · Phrase Line.unary) us × Anything (first vs)
       narrow us vs (phrase.minus {us = ws} shaped) follows is = (record { front = pieces.Minus ∷ []; back = ws; whole = refl; is_front = One.one; is_back = shaped }, tt)
       narrow us vs (phrase.unary_atom shaped) follows is = absurd (no_atom_with_minus us vs shaped (is ∙ h))
@@ -245,15 +245,15 @@ module _ (depth : ℕ) (nested : Parser Expr) (nested_fits : NestedFits nested) 
   unary_from_fits (suc n) i short =
       by_seeing i pieces.Minus (Phrase Line.unary) Anything ((node >> (take >> (unary_from depth nested n >>= (λ x. pure (e.Neg x))))) i) (atom depth nested i)
       (λ h.
-          let k = with_node i in
-          let b = behind_next k pieces.Minus h in
-          let w = ap length b.whole in
-          let inner : Fits (next k) (Phrase Line.unary) Anything ((unary_from depth nested n >>= (λ x. pure (e.Neg x))) (next k)) =
-              then_keeps (next k) (Phrase Line.unary) Anything (unary_from depth nested n (next k)) (λ x. pure (e.Neg x)) (unary_from_fits n (next k) (omega (arith, w, short))) (λ x j. (refl, refl)) in
-          unary_of_minus i ((node >> (take >> (unary_from depth nested n >>= (λ x. pure (e.Neg x))))) i) h
-          (node_then i pieces.Minus (pieces.Name ∷ []) (One pieces.Minus · Phrase Line.unary) Anything (take >> (unary_from depth nested n >>= (λ x. pure (e.Neg x)))) h
-              (record { front = pieces.Minus ∷ []; back = pieces.Name ∷ []; whole = refl; is_front = One.one; is_back = phrase.unary_atom phrase.atom_name })
-              (behind_fits k (next k) (One pieces.Minus) (Phrase Line.unary) Anything Anything ((unary_from depth nested n >>= (λ x. pure (e.Neg x))) (next k)) (λ us vs a c. tt) (took_one k (next k) pieces.Minus h (refl, refl)) inner)))
+      let k = with_node i in
+      let b = behind_next k pieces.Minus h in
+      let w = ap length b.whole in
+      let inner : Fits (next k) (Phrase Line.unary) Anything ((unary_from depth nested n >>= (λ x. pure (e.Neg x))) (next k)) =
+      then_keeps (next k) (Phrase Line.unary) Anything (unary_from depth nested n (next k)) (λ x. pure (e.Neg x)) (unary_from_fits n (next k) (omega (arith, w, short))) (λ x j. (refl, refl)) in
+      unary_of_minus i ((node >> (take >> (unary_from depth nested n >>= (λ x. pure (e.Neg x))))) i) h
+      (node_then i pieces.Minus (pieces.Name ∷ []) (One pieces.Minus · Phrase Line.unary) Anything (take >> (unary_from depth nested n >>= (λ x. pure (e.Neg x)))) h
+      (record { front = pieces.Minus ∷ []; back = pieces.Name ∷ []; whole = refl; is_front = One.one; is_back = phrase.unary_atom phrase.atom_name })
+      (next_then k pieces.Minus (Phrase Line.unary) Anything ((unary_from depth nested n >>= (λ x. pure (e.Neg x))) (next k)) h inner)))
       (unary_of_atom i)
 
   unary_fits : (i : Input) → Fits i (Phrase Line.unary) Anything (unary depth nested i)
@@ -296,7 +296,7 @@ module _ (depth : ℕ) (nested : Parser Expr) (nested_fits : NestedFits nested) 
       (tail_joins Rank.comp comparison comparison_table (Phrase Line.sum) Empty Compared comparison_turns EndsSum comparison_ends)
       (record { pieces = []; shaped = Compared.not_compared }) (sum_fits i)
       (λ left k got. turn_fits Rank.comp comparison comparison_table (Phrase Line.sum) Empty Compared comparison_turns EndsSum comparison_ends
-          (sum depth nested) sum_fits some_sum (record { pieces = []; shaped = Empty.empty }) nothing_joins k pure left (λ j x shorter. pure_fits j x)))
+      (sum depth nested) sum_fits some_sum (record { pieces = []; shaped = Empty.empty }) nothing_joins k pure left (λ j x shorter. pure_fits j x)))
 
   -- ---- neg
 
@@ -319,8 +319,10 @@ module _ (depth : ℕ) (nested : Parser Expr) (nested_fits : NestedFits nested) 
     where
       by_one : (a b : List Piece) → One pieces.Not a → Phrase Line.neg b → Phrase Line.neg (a ++ b)
       by_one a b One.one shaped = phrase.not shaped
+
       wider : (us : List Piece) → (One pieces.Not · Phrase Line.neg) us → Phrase Line.neg us
       wider us both = subst (Phrase Line.neg) (sym both.whole) (by_one both.front both.back both.is_front both.is_back)
+
       narrow : (us vs : List Piece) → Phrase Line.neg us → EndsComp (first vs) → first (us ++ vs) ≡ first (pieces_left i) → (One pieces.Not · Phrase Line.neg) us × EndsComp (first vs)
       narrow us vs (phrase.not {us = ws} shaped) follows is = (record { front = pieces.Not ∷ []; back = ws; whole = refl; is_front = One.one; is_back = shaped }, follows)
       narrow us vs (phrase.neg_comp shaped) follows is = absurd (comp_with_not us vs shaped (is ∙ h))
@@ -331,15 +333,15 @@ module _ (depth : ℕ) (nested : Parser Expr) (nested_fits : NestedFits nested) 
   neg_from_fits (suc n) i short =
       by_seeing i pieces.Not (Phrase Line.neg) EndsComp ((node >> (take >> (neg_from depth nested n >>= (λ x. pure (e.Not x))))) i) (comp depth nested i)
       (λ h.
-          let k = with_node i in
-          let b = behind_next k pieces.Not h in
-          let w = ap length b.whole in
-          let inner : Fits (next k) (Phrase Line.neg) EndsComp ((neg_from depth nested n >>= (λ x. pure (e.Not x))) (next k)) =
-              then_keeps (next k) (Phrase Line.neg) EndsComp (neg_from depth nested n (next k)) (λ x. pure (e.Not x)) (neg_from_fits n (next k) (omega (arith, w, short))) (λ x j. (refl, refl)) in
-          neg_of_not i ((node >> (take >> (neg_from depth nested n >>= (λ x. pure (e.Not x))))) i) h
-          (node_then i pieces.Not (pieces.Name ∷ []) (One pieces.Not · Phrase Line.neg) EndsComp (take >> (neg_from depth nested n >>= (λ x. pure (e.Not x)))) h
-              (record { front = pieces.Not ∷ []; back = pieces.Name ∷ []; whole = refl; is_front = One.one; is_back = phrase.neg_comp some_comp })
-              (behind_fits k (next k) (One pieces.Not) (Phrase Line.neg) Anything EndsComp ((neg_from depth nested n >>= (λ x. pure (e.Not x))) (next k)) (λ us vs a c. tt) (took_one k (next k) pieces.Not h (refl, refl)) inner)))
+      let k = with_node i in
+      let b = behind_next k pieces.Not h in
+      let w = ap length b.whole in
+      let inner : Fits (next k) (Phrase Line.neg) EndsComp ((neg_from depth nested n >>= (λ x. pure (e.Not x))) (next k)) =
+      then_keeps (next k) (Phrase Line.neg) EndsComp (neg_from depth nested n (next k)) (λ x. pure (e.Not x)) (neg_from_fits n (next k) (omega (arith, w, short))) (λ x j. (refl, refl)) in
+      neg_of_not i ((node >> (take >> (neg_from depth nested n >>= (λ x. pure (e.Not x))))) i) h
+      (node_then i pieces.Not (pieces.Name ∷ []) (One pieces.Not · Phrase Line.neg) EndsComp (take >> (neg_from depth nested n >>= (λ x. pure (e.Not x)))) h
+      (record { front = pieces.Not ∷ []; back = pieces.Name ∷ []; whole = refl; is_front = One.one; is_back = phrase.neg_comp some_comp })
+      (next_then k pieces.Not (Phrase Line.neg) EndsComp ((neg_from depth nested n >>= (λ x. pure (e.Not x))) (next k)) h inner)))
       (neg_of_comp i)
 
   neg_fits : (i : Input) → Fits i (Phrase Line.neg) EndsComp (neg depth nested i)
@@ -382,10 +384,9 @@ parens_fits : (depth : ℕ) → NestedFits (parens depth)
 unfolding parens
 parens_fits zero i h = faults_next i pieces.OpenParen ExprInParens (pieces.Name ∷ pieces.CloseParen ∷ []) h name_in_parens
 parens_fits (suc depth) i h =
-    behind_fits i (next i) (One pieces.OpenParen) (Phrase Line.expr · One pieces.CloseParen) Anything Anything ((disj depth (parens depth) >>= (λ x. expect pieces.CloseParen >> pure x)) (next i)) (λ us vs a b. tt)
-    (took_one i (next i) pieces.OpenParen h (refl, refl))
-    (then_fits (next i) (Phrase Line.expr) (One pieces.CloseParen) EndsExpr Anything (disj depth (parens depth) (next i)) (λ x. expect pieces.CloseParen >> pure x) close_joins (one_more pieces.CloseParen)
-        (disj_fits depth (parens depth) (parens_fits depth) (next i)) (λ x j got. close_fits j x))
+    next_then i pieces.OpenParen (Phrase Line.expr · One pieces.CloseParen) Anything ((disj depth (parens depth) >>= (λ x. expect pieces.CloseParen >> pure x)) (next i)) h
+    (then_fits (next i) (Phrase Line.expr) (One pieces.CloseParen) EndsExpr Anything (disj depth (parens depth) (next i)) (λ x. expect pieces.CloseParen >> pure x) close_joins (some_one pieces.CloseParen)
+    (disj_fits depth (parens depth) (parens_fits depth) (next i)) (λ x j got. close_fits j x))
 
 pub expr_fits : (i : Input) → Fits i (Phrase Line.expr) EndsExpr (expr i)
 unfolding expr without_nodes

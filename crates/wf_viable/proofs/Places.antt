@@ -1,16 +1,15 @@
 -- The laws of where faults stand.
-use Rattle.std.proofs.Common.{arith, ◌≡◌, ◌≢◌, ℕ, zero, suc, ◌+◌, ◌<◌, ◌≤◌, ◌⊎◌, inl, inr, nat_lt, Bool, true, false, if◌then◌else◌, List, [], ◌∷◌, ◌++◌, length, map, take, drop, Option, Some, None, Result, Ok, Err, refl, sym, ◌∙◌, ap, ap₂, subst, append_assoc, append-nil, length-append}
+use Rattle.std.proofs.Common.{arith, ◌≡◌, ℕ, zero, suc, ◌+◌, ◌<◌, ◌≤◌, ◌⊎◌, inl, inr, nat_lt, Bool, true, false, if◌then◌else◌, List, [], ◌∷◌, ◌++◌, length, map, take, drop, Some, None, Result, Ok, Err, refl, sym, ◌∙◌, ap, ap₂, subst, append_assoc, append-nil, length-append}
 use Rattle.std.proofs.lemmas.Bool.Decides.{nat_tests}
 use Rattle.std.proofs.lemmas.List.{take_at, drop_at, take-append-drop}
 use Rattle.wf_grammar.proofs.Inputs.{less_is}
-use Rattle.std.proofs.Math.Seq.{take-append-add, take-append_seam}
+use Rattle.std.proofs.Math.Seq.{take-append-add}
 use Rattle.wf_model.specs.declared.chart.Transition.{Transition as Move}
 use Rattle.wf_model.specs.declared.chart.Chart.{Chart as Drawing}
 use Rattle.wf_lex.specs.declared.token.Token.{Token}
 use Rattle.wf_lex.specs.declared.token.LexFault.{LexFault}
 use Rattle.wf_lex.specs.declared.token.LexFault.TheVariants as lex
 use Rattle.wf_lex.specs.Lex.{tokens_of}
-use Rattle.wf_cursor.specs.declared.fault.TextFault.{TextFault}
 use Rattle.wf_cursor.specs.declared.fault.TextFault.TheVariants as fault
 use Rattle.wf_cursor.specs.declared.piece.Piece.{Piece}
 use Rattle.wf_cursor.specs.declared.piece.Piece.TheVariants as pieces
@@ -26,9 +25,10 @@ use Rattle.wf_text.specs.States.{root}
 use Rattle.wf_text.specs.Transitions.{transitions}
 use Rattle.wf_text.specs.Text.{finished, contents, whole, with_place, chart_from, chart_of}
 use Rattle.wf_grammar.specs.Lexemes.{lexeme_of}
-use Rattle.wf_viable.specs.Shapes.{Shape, first}
+use Rattle.wf_grammar.proofs.ChartSpelled.{chart_spelled}
+use Rattle.wf_viable.specs.Shapes.{first}
 use Rattle.wf_viable.specs.Charts.{Chart}
-use Rattle.wf_viable.specs.Laws.{pieces_of, BeginsChart, Misfits, IsFirstMisfit, IsFit, StandsAt, SyntaxIsFirstMisfit, place_of_other, OtherFaultsFit, StandsBefore, syntax_at, FirstMisfitIsTold, ReadIsShaped, MisfitIsFinal}
+use Rattle.wf_viable.specs.Laws.{pieces_of, BeginsChart, Misfits, IsFirstMisfit, IsFit, StandsAt, SyntaxIsFirstMisfit, place_of_other, OtherFaultsFit, StandsBefore, syntax_at, FirstMisfitIsTold, ReadIsShaped, SpelledIsShaped, MisfitIsFinal}
 use Rattle.wf_viable.proofs.Fits as fits
 use Rattle.wf_viable.proofs.Fits.{pieces_left, GoesOn, Parts, Took, Fits, first_behind}
 use Rattle.wf_viable.proofs.Whole.{AtEnd, contents_fits}
@@ -59,7 +59,7 @@ parts_fit text tokens at parts =
     let goes = parts.holds in
     let whole : pieces_of text tokens ≡ parts.us ++ goes.piece ∷ goes.more = parts.whole ∙ ap (λ x. parts.us ++ x) goes.next in
     let before : take (at + 1) (pieces_of text tokens) ≡ parts.us ++ goes.piece ∷ [] =
-        ap (take (at + 1)) whole ∙ ap (λ n. take (n + 1) (parts.us ++ goes.piece ∷ goes.more)) (sym count) ∙ take-append-add parts.us (goes.piece ∷ goes.more) 1 in
+    ap (take (at + 1)) whole ∙ ap (λ n. take (n + 1) (parts.us ++ goes.piece ∷ goes.more)) (sym count) ∙ take-append-add parts.us (goes.piece ∷ goes.more) 1 in
     let l = length-append parts.us (goes.piece ∷ goes.more) in
     let w = ap length whole in
     record {
@@ -128,6 +128,7 @@ finished_all i = by_test (nat_lt 0 (length i.left)) refl
     by_left : (left : List Token) → nat_lt 0 (length left) ≡ false → map (λ t. (lexeme_of i.text t).piece) left ≡ []
     by_left [] h = refl
     by_left (t ∷ rest) h = let m = not_less 0 (length (t ∷ rest)) h in let never : ⊥ = omega (arith, m) in absurd never
+
     by_test : (b : Bool) → nat_lt 0 (length i.left) ≡ b → AllOk NoneLeft (if b then syntax i else pure (tt {0}) i)
     by_test true h = tt
     by_test false h = by_left i.left h
@@ -136,7 +137,7 @@ contents_all : (i : Input) → AllOk NoneLeft (contents i)
 unfolding contents
 contents_all i =
     then_all NoneLeft (expect pieces.Chart i) _ (λ a j. then_all NoneLeft (input.name j) _ (λ name k. then_all NoneLeft (expect pieces.Semicolon k) _ (λ b l. then_all NoneLeft (declarations l) _ (λ c m.
-        then_all NoneLeft (root m) _ (λ d n. then_all NoneLeft (transitions n) _ (λ found o. last o (finished o) (name, found) (finished_all o)))))))
+    then_all NoneLeft (root m) _ (λ d n. then_all NoneLeft (transitions n) _ (λ found o. last o (finished o) (name, found) (finished_all o)))))))
   where
     last : {A : Type 0} (o : Input) (r : Outcome (Unit {0})) (a : A) → AllOk NoneLeft r → AllOk NoneLeft (and_then r (λ _. pure a))
     last o (Ok q) a all = all
@@ -158,6 +159,7 @@ read_shaped text chart (Ok tokens) is h = by_outcome (contents (start_of text to
   where
     shaped : (q : (List ℕ × List Move) × Input) → contents (start_of text tokens) ≡ Ok q → Chart (pieces_of text tokens)
     shaped q got = all_shaped (start_of text tokens) q got
+
     by_outcome : (r : Outcome (List ℕ × List Move)) → contents (start_of text tokens) ≡ r → with_place text tokens (whole r) ≡ Ok chart
         → (tokens' : List Token) × (tokens_of text ≡ Ok tokens') × Chart (pieces_of text tokens')
     by_outcome (Ok q) got h' = (tokens, is, shaped q got)
@@ -268,10 +270,18 @@ pub first_misfit_is_told : FirstMisfitIsTold
 unfolding chart_of
 first_misfit_is_told text tokens at is misfit = rw is (misfit_told text tokens at misfit)
 
+-- of these tokens
+shaped_of : (text : List ℕ) (tokens : List Token) (chart : Drawing) → tokens_of text ≡ Ok tokens → chart_of text ≡ Ok chart → Chart (pieces_of text tokens)
+shaped_of text tokens chart are reads =
+    let shaped = read_is_shaped text chart reads in
+    let same : shaped.0 ≡ tokens = (let both : Ok shaped.0 ≡ Ok tokens = sym shaped.1 ∙ are in cc) in
+    subst (λ ts. Chart (pieces_of text ts)) same shaped.2
+
+pub spelled_is_shaped : SpelledIsShaped
+spelled_is_shaped text tokens chart are spelled = shaped_of text tokens chart are (chart_spelled text tokens chart are spelled)
+
 pub misfit_is_final : MisfitIsFinal
 misfit_is_final text other tokens others at chart is misfit are reads before there =
-    let shaped = read_is_shaped other chart reads in
-    let same : shaped.0 ≡ others = (let both : Ok shaped.0 ≡ Ok others = sym shaped.1 ∙ are in cc) in
-    let chart_shaped : Chart (pieces_of other others) = subst (λ ts. Chart (pieces_of other ts)) same shaped.2 in
+    let chart_shaped = shaped_of other others chart are reads in
     misfit.misfits (drop at (pieces_of other others)) there
     (subst Chart (sym (take-append-drop at (pieces_of other others)) ∙ ap (λ x. x ++ drop at (pieces_of other others)) before) chart_shaped)

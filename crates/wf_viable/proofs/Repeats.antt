@@ -1,14 +1,13 @@
 -- What may be left out, and what may come any number of times: the next piece tells whether it comes.
-use Rattle.std.proofs.Common.{arith, ◌≡◌, ◌≢◌, ℕ, suc, ◌+◌, ◌≤◌, Bool, true, false, if◌then◌else◌, List, [], ◌∷◌, ◌++◌, length, map, Option, Some, None, Ok, Err, refl, sym, ◌∙◌, ap, subst, append_assoc, length-append}
+use Rattle.std.proofs.Common.{arith, ◌≡◌, suc, ◌≤◌, Bool, true, false, if◌then◌else◌, List, [], ◌∷◌, ◌++◌, length, Option, Some, None, Ok, Err, refl, sym, ◌∙◌, ap, subst, append_assoc, length-append}
 use Rattle.wf_cursor.specs.declared.piece.Piece.{Piece}
-use Rattle.wf_cursor.specs.Input.{Input, Outcome, Parser, and_then, ◌>>=◌, next, sees, eat}
+use Rattle.wf_cursor.specs.Input.{Input, Outcome, Parser, and_then, next, sees, eat}
 use Rattle.wf_grammar.proofs.Inputs.{sees_piece, piece_sees}
 use Rattle.wf_grammar.proofs.Reading.{Follow}
 use Rattle.wf_grammar.proofs.Follows.{Anything}
-use Rattle.wf_viable.specs.Shapes as shape
-use Rattle.wf_viable.specs.Shapes.{Shape, first, One, Then, Maybe, Many, ◌·◌}
-use Rattle.wf_viable.proofs.Fits.{pieces_left, Took, Fits, Productive, Joins, Recasts, recast, recast_all, behind_fits, then_fits}
-use Rattle.wf_viable.proofs.Steps.{piece_first, Next, Same, Keeps, took_one, took_none}
+use Rattle.wf_viable.specs.Shapes.{Shape, first, One, Maybe, Many, ◌·◌}
+use Rattle.wf_viable.proofs.Fits.{pieces_left, Took, Fits, Productive, Joins, recast, recast_all, behind_fits, then_fits}
+use Rattle.wf_viable.proofs.Steps.{piece_first, Next, Keeps, took_one, took_none}
 
 -- ---- something has the shape
 
@@ -45,6 +44,12 @@ pub then_begins : (S : Follow) (L M : Shape) → Begins S L → Begins S (L · M
 then_begins S L M begins us vs both =
     subst (λ x. S (first x)) (sym (append_assoc both.front both.back vs) ∙ ap (λ x. x ++ vs) (sym both.whole)) (begins both.front (both.back ++ vs) both.is_front)
 
+pub begins_with : (p : Piece) (M : Shape) → Begins (Is p) (One p · M)
+begins_with p M = then_begins (Is p) (One p) M (one_begins p)
+
+pub is_apart : (p : Piece) (q : Option Piece) → Is p q → IsNot p q → ⊥
+is_apart p q h no_such = no_such h
+
 -- ---- what may follow
 
 pub any_joins : (M : Shape) (G : Follow) → Joins M Anything G
@@ -75,7 +80,6 @@ nothing_fits i L F (Ok q) keeps empty only = took_none i q.1 L F keeps empty onl
 nothing_fits i L F (Err e) keeps empty only = absurd keeps
 
 module _ (S F : Follow) (L : Shape) (begins : Begins S L) (apart : (q : Option Piece) → S q → F q → ⊥) where
-
   pub maybe_some : {A : Type 0} (i : Input) (r : Outcome A) → S (first (pieces_left i)) → Fits i L F r → Fits i (Maybe L) F r
   maybe_some i r h fits = recast i L (Maybe L) F F r (record { wider = λ us shaped. Maybe.something shaped; narrow = narrow }) fits
     where
@@ -116,6 +120,15 @@ one_then i p M G r f some fits goes = then_fits i (One p) M Anything G r f (any_
 pub next_then : {A : Type 0} (i : Input) (p : Piece) (M : Shape) (G : Follow) (r : Outcome A) → Next p i → Fits (next i) M G r → Fits i (One p · M) G r
 next_then i p M G r h fits = behind_fits i (next i) (One p) M Anything G r (any_joins M G) (took_one i (next i) p h (refl, refl)) fits
 
+-- a word that is taken, of those of which the shape is one
+pub word_took : {A : Type 0} (i : Input) (p : Piece) (L : Shape) (x : A) → Next p i → L (p ∷ []) → ((us vs : List Piece) → L us → first (us ++ vs) ≡ Some p → One p us)
+    → Fits i L Anything (Ok (x, next i))
+word_took i p L x h shaped only =
+    recast i (One p) L Anything Anything (Ok (x, next i)) (record { wider = wider; narrow = λ us vs shaped' follows is. (only us vs shaped' (is ∙ h), tt) }) (took_one i (next i) p h (refl, refl))
+  where
+    wider : (us : List Piece) → One p us → L us
+    wider us One.one = shaped
+
 -- by whether the next piece is taken
 pub eat_fits : {B : Type 0} (i : Input) (p : Piece) (L : Shape) (F : Follow) (f : Bool → Parser B) → (Next p i → Fits i L F (f true (next i)))
     → ((Next p i → ⊥) → Fits i L F (f false i)) → Fits i L F (and_then (eat p i) f)
@@ -138,6 +151,7 @@ regroup i L M N F r fits = recast_all i (L · M · N) ((L · M) · N) F r wider 
       is_front = record { front = a.front; back = b.front; whole = refl; is_front = a.is_front; is_back = b.is_front };
       is_back = b.is_back;
     }
+
     narrower : (us : List Piece) → ((L · M) · N) us → (L · M · N) us
     narrower us a = let b = a.is_front in record {
       front = b.front;

@@ -1,5 +1,5 @@
 -- States take what their shapes say, and tell a fault of syntax at the first piece that fits none.
-use Rattle.std.proofs.Common.{arith, ◌≡◌, ◌≢◌, ℕ, zero, suc, ◌+◌, ◌≤◌, Bool, true, false, if◌then◌else◌, List, [], ◌∷◌, ◌++◌, length, map, Option, Some, None, Ok, Err, refl, sym, ◌∙◌, ap, subst, append_assoc}
+use Rattle.std.proofs.Common.{arith, ◌≡◌, ℕ, zero, suc, ◌≤◌, if◌then◌else◌, List, [], ◌∷◌, ◌++◌, length, Option, Some, None, Ok, refl, sym, ◌∙◌, ap, subst, append_assoc}
 use Rattle.std.proofs.lemmas.List.{length-map}
 use Rattle.wf_model.specs.declared.limits.TheConstants.{MAX_OPEN}
 use Rattle.wf_model.specs.declared.ids.StateId.{StateId}
@@ -16,12 +16,12 @@ use Rattle.wf_grammar.specs.Lexemes.{lexeme_of}
 use Rattle.wf_grammar.specs.Drawing.{Part}
 use Rattle.wf_grammar.proofs.Reading.{Follow}
 use Rattle.wf_grammar.proofs.Follows.{Anything}
-use Rattle.wf_viable.specs.Shapes.{Shape, first, One, Then, Maybe, Many, ◌·◌}
+use Rattle.wf_viable.specs.Shapes.{Shape, first, One, Maybe, ◌·◌}
 use Rattle.wf_viable.specs.Charts.{Kind, Head, Drawn}
-use Rattle.wf_viable.proofs.Fits.{pieces_left, Fits, Productive, Joins, Recasts, recast, recast_all, follows_less, behind_fits, then_fits}
-use Rattle.wf_viable.proofs.Steps.{piece_first, Next, behind_next, Keeps, took_one, stuck_here, faults_next, then_keeps, expect_fits, new_name_fits, unit_fits}
+use Rattle.wf_viable.proofs.Fits.{pieces_left, Fits, Productive, recast, recast_all, follows_less, then_fits}
+use Rattle.wf_viable.proofs.Steps.{piece_first, Next, took_one, stuck_here, faults_next, then_keeps, expect_fits, new_name_fits, unit_fits}
 use Rattle.wf_viable.proofs.Turns.{none_left}
-use Rattle.wf_viable.proofs.Repeats.{some_one, some_then, Begins, Is, IsNot, one_begins, then_begins, any_joins, maybe_some, maybe_none, one_then, next_then, eat_fits, shorter}
+use Rattle.wf_viable.proofs.Repeats.{some_one, some_then, Begins, then_begins, any_joins, maybe_some, maybe_none, one_then, next_then, eat_fits, shorter, word_took}
 
 -- ---- the words of kinds
 
@@ -45,21 +45,14 @@ kind_begins us vs Kind.kind_basic is = cc
 kind_begins us vs Kind.kind_or is = cc
 kind_begins us vs Kind.kind_and is = cc
 
-kind_took : (i : Input) (p : Piece) (k : KindOf) → Next p i → Kind (p ∷ []) → Fits i Kind Anything (Ok (k, next i))
-kind_took i p k h shaped =
-    recast i (One p) Kind Anything Anything (Ok (k, next i)) (record { wider = wider; narrow = λ us vs shaped' follows is. (kind_is p us vs shaped' (is ∙ h), tt) }) (took_one i (next i) p h (refl, refl))
-  where
-    wider : (us : List Piece) → One p us → Kind us
-    wider us One.one = shaped
-
 kind_fits : (i : Input) → Fits i Kind Anything (kind i)
 unfolding kind
 kind_fits i = by_piece (piece i) refl
   where
     by_piece : (q : Option Piece) → piece i ≡ q → Fits i Kind Anything (kind_by (kind_of q) i)
-    by_piece (Some pieces.Basic) is = kind_took i pieces.Basic kinds.Basic (sym (piece_first i) ∙ is) Kind.kind_basic
-    by_piece (Some pieces.Or) is = kind_took i pieces.Or kinds.Or (sym (piece_first i) ∙ is) Kind.kind_or
-    by_piece (Some pieces.And) is = kind_took i pieces.And kinds.And (sym (piece_first i) ∙ is) Kind.kind_and
+    by_piece (Some pieces.Basic) is = word_took i pieces.Basic Kind kinds.Basic (sym (piece_first i) ∙ is) Kind.kind_basic (kind_is pieces.Basic)
+    by_piece (Some pieces.Or) is = word_took i pieces.Or Kind kinds.Or (sym (piece_first i) ∙ is) Kind.kind_or (kind_is pieces.Or)
+    by_piece (Some pieces.And) is = word_took i pieces.And Kind kinds.And (sym (piece_first i) ∙ is) Kind.kind_and (kind_is pieces.And)
     by_piece q is = stuck_here i Kind Anything some_kind (λ us vs shaped follows at_hand. kind_begins us vs shaped (ap kind_of (at_hand ∙ sym (piece_first i) ∙ is)))
 
 -- ---- the head of a state
@@ -84,8 +77,8 @@ unfolding reader.placed with_state
 head_fits i parent =
     then_fits i Kind NameAtUnit Anything Anything (kind i) _ (any_joins NameAtUnit Anything) some_name_at (kind_fits i)
     (λ k j got. one_then j pieces.Name AtUnit Anything (new_name (declared_as_a.State (next_state j)) j) _ some_at (new_name_fits j (declared_as_a.State (next_state j)))
-        (λ name l. one_then l pieces.At (One pieces.Name) Anything (expect pieces.At l) _ (some_one pieces.Name) (expect_fits l pieces.At)
-            (λ a m. then_keeps m (One pieces.Name) Anything (input.unit m) _ (unit_fits m) (λ u n. (refl, refl)))))
+    (λ name l. one_then l pieces.At (One pieces.Name) Anything (expect pieces.At l) _ (some_one pieces.Name) (expect_fits l pieces.At)
+    (λ a m. then_keeps m (One pieces.Name) Anything (input.unit m) _ (unit_fits m) (λ u n. (refl, refl)))))
 
 -- ---- bodies
 
@@ -117,6 +110,7 @@ is_in_braces us both = subst Body (sym both.whole) (by_one both.front both.back 
   where
     by_close : (a b : List Piece) → States a → One pieces.CloseBrace b → Body (pieces.OpenBrace ∷ (a ++ b))
     by_close a b shaped One.one = Drawn.body_opens shaped
+
     by_one : (a b : List Piece) → One pieces.OpenBrace a → StatesClosed b → Body (a ++ b)
     by_one a b One.one both' = subst (λ x. Body (pieces.OpenBrace ∷ x)) (sym both'.whole) (by_close both'.front both'.back both'.is_front both'.is_back)
 
@@ -190,6 +184,7 @@ closed_begins us vs both absent = by_states both.front both.is_front both.whole
   where
     by_close : (b : List Piece) → One pieces.CloseBrace b → us ≡ b → ⊥
     by_close b One.one whole = absent (ap (λ x. first (x ++ vs)) whole)
+
     by_states : (a : List Piece) → States a → us ≡ a ++ both.back → (State · StatesClosed) us
     by_states a Drawn.no_state whole = absurd (by_close both.back both.is_back whole)
     by_states a (Drawn.more_states {us = ws} {vs = more} b c) whole = record {
@@ -212,6 +207,7 @@ closed_now i r h fits = recast i (One pieces.CloseBrace) StatesClosed Anything A
   where
     wider : (us : List Piece) → One pieces.CloseBrace us → StatesClosed us
     wider us shaped = record { front = []; back = us; whole = refl; is_front = Drawn.no_state; is_back = shaped }
+
     narrow : (us vs : List Piece) → StatesClosed us → Anything (first vs) → first (us ++ vs) ≡ first (pieces_left i) → One pieces.CloseBrace us × Anything (first vs)
     narrow us vs both follows is = by_states both.front both.is_front both.whole
       where
@@ -233,6 +229,7 @@ closed_later i r absent fits = recast i (State · StatesClosed) StatesClosed Any
       is_front = Drawn.more_states a.is_front b.is_front;
       is_back = b.is_back;
     }
+
     narrow : (us vs : List Piece) → StatesClosed us → Anything (first vs) → first (us ++ vs) ≡ first (pieces_left i) → (State · StatesClosed) us × Anything (first vs)
     narrow us vs both follows is = (closed_begins us vs both (λ h. absent (sym is ∙ h)), tt)
 
@@ -244,8 +241,8 @@ children_from_fits child child_fits (suc n) i short =
     eat_fits i pieces.CloseBrace StatesClosed Anything (λ closed. if closed then pure tt else (child >> children_from child n))
     (λ h. closed_now i (Ok (tt {0}, next i)) h (took_one i (next i) pieces.CloseBrace h (refl, refl)))
     (λ absent. closed_later i ((child >> children_from child n) i) absent
-        (then_fits i State StatesClosed Anything Anything (child i) (λ _. children_from child n) (any_joins StatesClosed Anything) some_closed (child_fits i)
-            (λ x j got. children_from_fits child child_fits n j (let l = shorter StartsState Anything State state_begins starts_at_none i j (child i) x (child_fits i) got in omega arith))))
+    (then_fits i State StatesClosed Anything Anything (child i) (λ _. children_from child n) (any_joins StatesClosed Anything) some_closed (child_fits i)
+    (λ x j got. children_from_fits child child_fits n j (let l = shorter StartsState Anything State state_begins starts_at_none i j (child i) x (child_fits i) got in omega arith))))
 
 children_fits : (child : Parser (Unit {0})) → ((k : Input) → Fits k State Anything (child k)) → (i : Input) → Fits i StatesClosed Anything (children child i)
 unfolding children

@@ -1,5 +1,5 @@
 -- Each step that rules are made of takes one piece, or tells a fault where it stands.
-use Rattle.std.proofs.Common.{arith, ◌≡◌, ◌≢◌, ℕ, ◌+◌, ◌≤◌, ◌==◌, nat_le, nat_lt, Bool, true, false, if◌then◌else◌, List, [], ◌∷◌, ◌++◌, length, map, Option, Some, None, Ok, Err, refl, sym, ◌∙◌, ap, subst}
+use Rattle.std.proofs.Common.{arith, ◌≡◌, ℕ, ◌+◌, ◌==◌, nat_le, nat_lt, Bool, true, false, if◌then◌else◌, List, [], ◌∷◌, ◌++◌, length, Option, Some, None, Ok, Err, refl, sym, ◌∙◌, ap, subst}
 use Rattle.wf_model.specs.declared.limits.TheConstants.{MAX_NAME, MAX_NODES}
 use Rattle.wf_lex.specs.declared.token.Token.{Token}
 use Rattle.wf_cursor.specs.declared.fault.TextFault.TheVariants as fault
@@ -181,6 +181,7 @@ name_then i f g = by_test (sees pieces.Name i) refl
     by_size : (b : Bool) → Next pieces.Name i → Fits i (One pieces.Name) Anything (and_then (if b then Ok (tt {0}, i) else oversize i) (λ _. f))
     by_size true h = g h
     by_size false h = one_over i pieces.Name h
+
     by_test : (b : Bool) → sees pieces.Name i ≡ b
         → Fits i (One pieces.Name) Anything (and_then (if b then (if nat_le (length (spelling i)) MAX_NAME then Ok (tt {0}, i) else oversize i) else syntax i) (λ _. f))
     by_test true h = by_size (nat_le (length (spelling i)) MAX_NAME) (sym (piece_first i) ∙ sees_piece pieces.Name i h)

@@ -1,5 +1,5 @@
 -- Transitions take what their shapes say, and tell a fault of syntax at the first piece that fits none.
-use Rattle.std.proofs.Common.{arith, ◌≡◌, ◌≢◌, ℕ, zero, suc, ◌+◌, ◌≤◌, Bool, true, false, if◌then◌else◌, List, [], ◌∷◌, ◌++◌, length, map, Option, Some, None, Ok, Err, refl, sym, ◌∙◌, ap, subst}
+use Rattle.std.proofs.Common.{arith, ◌≡◌, ℕ, zero, suc, ◌≤◌, Bool, true, false, if◌then◌else◌, List, [], ◌∷◌, ◌++◌, length, Option, Some, None, Ok, refl, sym, ◌∙◌, ap, subst}
 use Rattle.std.proofs.lemmas.List.{length-map}
 use Rattle.wf_model.specs.declared.ids.EventId.{EventId}
 use Rattle.wf_model.specs.declared.chart.Action.{Action as Act}
@@ -12,28 +12,21 @@ use Rattle.wf_cursor.specs.Input as input
 use Rattle.wf_cursor.specs.Input.{Input, Outcome, Parser, and_then, ◌>>=◌, ◌>>◌, pure, peek, take, syntax, piece, next, sees, eat, expect, here}
 use Rattle.wf_phrase.specs.Operators.{or_operator, and_operator, comparison, sum_operator, product_operator}
 use Rattle.wf_phrase.specs.Expressions.{expr}
-use Rattle.wf_text.specs.Transitions as reader
 use Rattle.wf_text.specs.Transitions.{caused, guarded, assigned, raised, started, action_by, action, actions_from, actions, effects, transition, transitions_from, transitions}
 use Rattle.wf_grammar.specs.Lexemes.{lexeme_of}
 use Rattle.wf_grammar.proofs.Inputs.{sees_piece, piece_sees}
 use Rattle.wf_grammar.proofs.Reading.{Follow}
 use Rattle.wf_grammar.proofs.Follows.{Anything, EndsExpr}
-use Rattle.wf_viable.specs.Shapes.{Shape, first, One, Then, Maybe, Many, ◌·◌}
+use Rattle.wf_viable.specs.Shapes.{Shape, first, One, Maybe, Many, ◌·◌}
 use Rattle.wf_viable.specs.Charts.{Expr, Action, Actions, Transition}
-use Rattle.wf_viable.proofs.Fits.{pieces_left, Fits, Productive, Joins, Recasts, recast, follows_less, behind_fits, then_fits, no_longer}
-use Rattle.wf_viable.proofs.Steps.{piece_first, Next, behind_next, Keeps, took_one, stuck_here, then_keeps, by_seeing, expect_fits, state_fits, event_fits, variable_fits, activity_fits}
+use Rattle.wf_viable.proofs.Fits.{pieces_left, Fits, Productive, Joins, recast, follows_less, then_fits, no_longer}
+use Rattle.wf_viable.proofs.Steps.{piece_first, Next, behind_next, stuck_here, then_keeps, expect_fits, state_fits, event_fits, variable_fits, activity_fits}
 use Rattle.wf_viable.proofs.Turns.{none_left}
 use Rattle.wf_viable.proofs.Phrases.{name_is_expr, expr_fits}
-use Rattle.wf_viable.proofs.Repeats.{some_one, some_then, some_maybe, some_many, Begins, Is, IsNot, one_begins, then_begins, any_joins, begun_joins, maybe_joins, many_joins, maybe_some, maybe_none, many_more, many_none, one_then, next_then, eat_fits, regroup, shorter}
+use Rattle.wf_viable.proofs.Repeats.{some_one, some_then, some_maybe, some_many, Begins, Is, IsNot, any_joins, maybe_joins, many_joins, maybe_some, maybe_none, many_more, many_none, one_then, next_then, eat_fits, regroup, shorter, begins_with, is_apart}
 
 some_expr : Productive Expr
 some_expr = record { pieces = pieces.Name ∷ []; shaped = name_is_expr }
-
-begins_with : (p : Piece) (M : Shape) → Begins (Is p) (One p · M)
-begins_with p M = then_begins (Is p) (One p) M (one_begins p)
-
-is_apart : (p : Piece) (q : Option Piece) → Is p q → IsNot p q → ⊥
-is_apart p q h no_such = no_such h
 
 -- ---- what ends an expression
 
@@ -58,9 +51,9 @@ caused_fits : (i : Input) → Fits i (Maybe OnEvent) (IsNot pieces.On) (caused i
 unfolding caused
 caused_fits i = eat_fits i pieces.On (Maybe OnEvent) (IsNot pieces.On) (λ found. if found then (input.event >>= (λ e. pure (Some e))) else pure None)
     (λ h. maybe_some (Is pieces.On) (IsNot pieces.On) OnEvent (begins_with pieces.On (One pieces.Name)) (is_apart pieces.On) i ((input.event >>= (λ e. pure (Some e))) (next i)) h
-        (next_then i pieces.On (One pieces.Name) (IsNot pieces.On) ((input.event >>= (λ e. pure (Some e))) (next i)) h
-            (follows_less (next i) (One pieces.Name) Anything (IsNot pieces.On) ((input.event >>= (λ e. pure (Some e))) (next i)) (λ q a. tt)
-                (then_keeps (next i) (One pieces.Name) Anything (input.event (next i)) (λ e. pure (Some e)) (event_fits (next i)) (λ x j. (refl, refl))))))
+    (next_then i pieces.On (One pieces.Name) (IsNot pieces.On) ((input.event >>= (λ e. pure (Some e))) (next i)) h
+    (follows_less (next i) (One pieces.Name) Anything (IsNot pieces.On) ((input.event >>= (λ e. pure (Some e))) (next i)) (λ q a. tt)
+    (then_keeps (next i) (One pieces.Name) Anything (input.event (next i)) (λ e. pure (Some e)) (event_fits (next i)) (λ x j. (refl, refl))))))
     (λ absent. maybe_none (Is pieces.On) (IsNot pieces.On) OnEvent (begins_with pieces.On (One pieces.Name)) (is_apart pieces.On) {A = Option EventId} i (Ok (None, i)) absent (refl, refl))
 
 -- ---- [ if expr ]
@@ -78,9 +71,9 @@ guarded_fits : (i : Input) → Fits i (Maybe IfExpr) EndsGuard (guarded i)
 unfolding guarded
 guarded_fits i = eat_fits i pieces.If (Maybe IfExpr) EndsGuard (λ found. if found then (expr >>= (λ x. pure (Some x))) else pure None)
     (λ h. maybe_some (Is pieces.If) EndsGuard IfExpr (begins_with pieces.If Expr) guard_apart i ((expr >>= (λ x. pure (Some x))) (next i)) h
-        (next_then i pieces.If Expr EndsGuard ((expr >>= (λ x. pure (Some x))) (next i)) h
-            (follows_less (next i) Expr EndsExpr EndsGuard ((expr >>= (λ x. pure (Some x))) (next i)) (λ q a. a.0)
-                (then_keeps (next i) Expr EndsExpr (expr (next i)) (λ x. pure (Some x)) (expr_fits (next i)) (λ x j. (refl, refl))))))
+    (next_then i pieces.If Expr EndsGuard ((expr >>= (λ x. pure (Some x))) (next i)) h
+    (follows_less (next i) Expr EndsExpr EndsGuard ((expr >>= (λ x. pure (Some x))) (next i)) (λ q a. a.0)
+    (then_keeps (next i) Expr EndsExpr (expr (next i)) (λ x. pure (Some x)) (expr_fits (next i)) (λ x j. (refl, refl))))))
     (λ absent. maybe_none (Is pieces.If) EndsGuard IfExpr (begins_with pieces.If Expr) guard_apart {A = Option Tree} i (Ok (None, i)) absent (refl, refl))
 
 -- ---- actions
@@ -132,7 +125,7 @@ unfolding assigned
 assigned_fits i =
     one_then i pieces.Name (One pieces.Assign · Expr) EndsExpr (input.variable i) _ (some_then (One pieces.Assign) Expr (some_one pieces.Assign) some_expr) (variable_fits i)
     (λ x j. one_then j pieces.Assign Expr EndsExpr (expect pieces.Assign j) _ some_expr (expect_fits j pieces.Assign)
-        (λ y k. then_keeps k Expr EndsExpr (expr k) _ (expr_fits k) (λ value m. (refl, refl))))
+    (λ y k. then_keeps k Expr EndsExpr (expr k) _ (expr_fits k) (λ value m. (refl, refl))))
 
 raised_fits : (i : Input) → Next pieces.Raise i → Fits i Raised EndsExpr (raised i)
 unfolding raised
@@ -191,15 +184,15 @@ actions_from_fits zero i found short =
 actions_from_fits (suc n) i found short =
     eat_fits i pieces.Comma (Many MoreActions) EndsActions (λ more. if more then (action >>= (λ a. actions_from n (found ++ a ∷ []))) else pure found)
     (λ h.
-        let b = behind_next i pieces.Comma h in
-        let w = ap length b.whole in
-        let k = next i in
-        let r = (action >>= (λ a. actions_from n (found ++ a ∷ []))) k in
-        many_more (Is pieces.Comma) EndsActions MoreActions comma_begins comma_apart i r h
-        (regroup i (One pieces.Comma) Action (Many MoreActions) EndsActions r
-            (next_then i pieces.Comma (Action · Many MoreActions) EndsActions r h
-                (then_fits k Action (Many MoreActions) EndsExpr EndsActions (action k) (λ a. actions_from n (found ++ a ∷ [])) more_joins (some_many MoreActions) (action_fits k)
-                    (λ a j got. actions_from_fits n j (found ++ a ∷ []) (let l = no_longer k j Action EndsExpr (action k) a (action_fits k) got in omega arith))))))
+    let b = behind_next i pieces.Comma h in
+    let w = ap length b.whole in
+    let k = next i in
+    let r = (action >>= (λ a. actions_from n (found ++ a ∷ []))) k in
+    many_more (Is pieces.Comma) EndsActions MoreActions comma_begins comma_apart i r h
+    (regroup i (One pieces.Comma) Action (Many MoreActions) EndsActions r
+    (next_then i pieces.Comma (Action · Many MoreActions) EndsActions r h
+    (then_fits k Action (Many MoreActions) EndsExpr EndsActions (action k) (λ a. actions_from n (found ++ a ∷ [])) more_joins (some_many MoreActions) (action_fits k)
+    (λ a j got. actions_from_fits n j (found ++ a ∷ []) (let l = no_longer k j Action EndsExpr (action k) a (action_fits k) got in omega arith))))))
     (λ absent. many_none (Is pieces.Comma) EndsActions MoreActions comma_begins comma_apart i (Ok (found, i)) absent (refl, refl))
 
 actions_fits : (i : Input) → Fits i Actions EndsActions (actions i)
@@ -222,8 +215,8 @@ effects_fits : (i : Input) → Fits i (Maybe DoActions) EndsEffects (effects i)
 unfolding effects
 effects_fits i = eat_fits i pieces.Do (Maybe DoActions) EndsEffects (λ found. if found then actions else pure [])
     (λ h. maybe_some (Is pieces.Do) EndsEffects DoActions (begins_with pieces.Do Actions) do_apart i (actions (next i)) h
-        (next_then i pieces.Do Actions EndsEffects (actions (next i)) h
-            (follows_less (next i) Actions EndsActions EndsEffects (actions (next i)) (λ q a. a.0) (actions_fits (next i)))))
+    (next_then i pieces.Do Actions EndsEffects (actions (next i)) h
+    (follows_less (next i) Actions EndsActions EndsEffects (actions (next i)) (λ q a. a.0) (actions_fits (next i)))))
     (λ absent. maybe_none (Is pieces.Do) EndsEffects DoActions (begins_with pieces.Do Actions) do_apart {A = List Act} i (Ok ([], i)) absent (refl, refl))
 
 -- ---- transitions
@@ -291,12 +284,12 @@ unfolding transition
 transition_fits i =
     one_then i pieces.From FromSource Anything (expect pieces.From i) _ some_source (expect_fits i pieces.From)
     (λ a j. one_then j pieces.Name FromTo Anything (input.state j) _ some_to (state_fits j)
-        (λ source k. one_then k pieces.To FromTarget Anything (expect pieces.To k) _ some_target (expect_fits k pieces.To)
-            (λ b l. one_then l pieces.Name FromCause Anything (input.state l) _ some_cause (state_fits l)
-                (λ target m. then_fits m (Maybe OnEvent) FromGuard (IsNot pieces.On) Anything (caused m) _ cause_joins some_guard (caused_fits m)
-                    (λ event n got. then_fits n (Maybe IfExpr) FromEffects EndsGuard Anything (guarded n) _ guard_joins some_effects (guarded_fits n)
-                        (λ guard o got'. then_fits o (Maybe DoActions) (One pieces.Semicolon) EndsEffects Anything (effects o) _ effects_join some_end (effects_fits o)
-                            (λ done u got''. then_keeps u (One pieces.Semicolon) Anything (expect pieces.Semicolon u) _ (expect_fits u pieces.Semicolon) (λ c w. (refl, refl)))))))))
+    (λ source k. one_then k pieces.To FromTarget Anything (expect pieces.To k) _ some_target (expect_fits k pieces.To)
+    (λ b l. one_then l pieces.Name FromCause Anything (input.state l) _ some_cause (state_fits l)
+    (λ target m. then_fits m (Maybe OnEvent) FromGuard (IsNot pieces.On) Anything (caused m) _ cause_joins some_guard (caused_fits m)
+    (λ event n got. then_fits n (Maybe IfExpr) FromEffects EndsGuard Anything (guarded n) _ guard_joins some_effects (guarded_fits n)
+    (λ guard o got'. then_fits o (Maybe DoActions) (One pieces.Semicolon) EndsEffects Anything (effects o) _ effects_join some_end (effects_fits o)
+    (λ done u got''. then_keeps u (One pieces.Semicolon) Anything (expect pieces.Semicolon u) _ (expect_fits u pieces.Semicolon) (λ c w. (refl, refl)))))))))
 
 -- ---- any number of transitions
 
@@ -318,7 +311,7 @@ transitions_from_fits (suc n) i found short = by_test (sees pieces.From i) refl 
     by_test true is rest =
         many_more (Is pieces.From) (IsNot pieces.From) Transition transition_begins (is_apart pieces.From) i ((transition >>= (λ t. transitions_from n (found ++ t ∷ []))) i) (sym (piece_first i) ∙ sees_piece pieces.From i is)
         (then_fits i Transition (Many Transition) Anything (IsNot pieces.From) (transition i) (λ t. transitions_from n (found ++ t ∷ [])) (any_joins (Many Transition) (IsNot pieces.From)) (some_many Transition) (transition_fits i)
-            (λ t j got. rest j t (shorter (Is pieces.From) Anything Transition transition_begins from_is_none i j (transition i) t (transition_fits i) got)))
+        (λ t j got. rest j t (shorter (Is pieces.From) Anything Transition transition_begins from_is_none i j (transition i) t (transition_fits i) got)))
     by_test false is rest =
         many_none (Is pieces.From) (IsNot pieces.From) Transition transition_begins (is_apart pieces.From) i (Ok (found, i)) (λ h. (let seen = piece_sees pieces.From i (piece_first i ∙ h) in cc)) (refl, refl)
 

@@ -1,19 +1,19 @@
 -- Chains of operands: an operand, and any number of operators with an operand behind each.
-use Rattle.std.proofs.Common.{arith, ◌≡◌, ◌≢◌, ℕ, zero, suc, ◌+◌, ◌≤◌, Bool, true, false, ◌⊎◌, inl, inr, List, [], ◌∷◌, ◌++◌, length, map, Option, Some, None, Ok, Err, refl, sym, ◌∙◌, ap, subst}
+use Rattle.std.proofs.Common.{arith, ◌≡◌, ℕ, zero, suc, ◌≤◌, ◌⊎◌, inl, inr, List, [], ◌∷◌, ◌++◌, length, Option, Some, None, refl, sym, ◌∙◌, ap, subst}
 use Rattle.std.proofs.lemmas.List.{length-map}
 use Rattle.wf_model.specs.declared.expr.Op.{Op}
 use Rattle.wf_model.specs.declared.expr.Expr.{Expr}
 use Rattle.wf_model.specs.declared.expr.Expr.TheVariants as e
 use Rattle.wf_cursor.specs.declared.piece.Piece.{Piece}
-use Rattle.wf_cursor.specs.Input.{Input, Outcome, Parser, and_then, ◌>>=◌, ◌>>◌, pure, take, piece, next, node}
+use Rattle.wf_cursor.specs.Input.{Input, Parser, ◌>>=◌, ◌>>◌, take, piece, next}
 use Rattle.wf_phrase.specs.Expressions.{chain_by, chain_from, rest_of, chain}
 use Rattle.wf_grammar.specs.Lexemes.{lexeme_of}
 use Rattle.wf_grammar.specs.Phrases.{Rank, sign_of, line_of}
 use Rattle.wf_grammar.proofs.Reading.{Follow}
 use Rattle.wf_grammar.proofs.Follows.{Anything}
 use Rattle.wf_grammar.proofs.Tables.{HasSign}
-use Rattle.wf_viable.specs.Shapes.{Shape, first, One, Then, ◌·◌}
-use Rattle.wf_viable.proofs.Fits.{pieces_left, Takes, Misfits, GoesOn, Parts, Took, Fits, Productive, Joins, Recasts, recast, behind_fits, then_fits, no_longer}
+use Rattle.wf_viable.specs.Shapes.{Shape, first, One, ◌·◌}
+use Rattle.wf_viable.proofs.Fits.{pieces_left, Fits, Productive, Joins, Recasts, recast, behind_fits, then_fits, no_longer}
 use Rattle.wf_viable.proofs.Steps.{piece_first, Next, behind_next, took_one, took_none, node_then, with_node}
 
 -- an operator of this line, an operand, and what follows
@@ -44,7 +44,6 @@ EndsAll operator F q = F q × (operator q ≡ None)
 
 module _ (rank : Rank) (operator : Option Piece → Option Op) (table : Table rank operator) (L M T : Shape) (turns : Turns rank L M T) (F : Follow)
     (ends : (p : Piece) (o : Op) → operator (Some p) ≡ Some o → F (Some p)) where
-
   abbrev G : Follow
   G = EndsAll operator F
 
@@ -77,8 +76,10 @@ module _ (rank : Rank) (operator : Option Piece → Option Op) (table : Table ra
           let sign = table.has_sign p o found in
           let t : T (sign_of o ∷ (both.front ++ both.back)) = turns.turns o both.front both.back sign.0 both.is_front both.is_back in
           subst T (ap (λ q. q ∷ (both.front ++ both.back)) (sym sign.1) ∙ ap (λ x. p ∷ x) (sym both.whole)) t
+
       wider : (us : List Piece) → (One p · (L · M)) us → T us
       wider us both = subst T (sym both.whole) (by_one both.front both.back both.is_front both.is_back)
+
       narrow : (us vs : List Piece) → T us → G (first vs) → first (us ++ vs) ≡ first (pieces_left i) → (One p · (L · M)) us × G (first vs)
       narrow us vs shaped follows is = by_case (turns.cases us shaped)
         where
@@ -93,7 +94,6 @@ module _ (rank : Rank) (operator : Option Piece → Option Op) (table : Table ra
               (record { front = p ∷ []; back = t.us ++ t.vs; whole = t.whole ∙ ap (λ q. q ∷ (t.us ++ t.vs)) same; is_front = One.one; is_back = record { front = t.us; back = t.vs; whole = refl; is_front = t.is_operand; is_back = t.is_more } }, follows)
 
   module _ (operand : Parser Expr) (operand_fits : (i : Input) → Fits i L F (operand i)) (some : Productive L) (some_more : Productive M) (more_joins : Joins M F G) where
-
     -- a turn, if an operator is next
     pub turn_fits : (i : Input) (more : Expr → Parser Expr) (left : Expr) → ((j : Input) (x : Expr) → suc (length (pieces_left j)) ≤ length (pieces_left i) → Fits j M G (more x j))
         → Fits i T G (chain_by operand more left (operator (piece i)) i)
@@ -109,15 +109,16 @@ module _ (rank : Rank) (operator : Option Piece → Option Op) (table : Table ra
             let r = recasts i p o h found in
             let k = with_node i in
             let inner : Fits (next k) (L · M) G ((operand >>= (λ right. more (e.Bin o left right))) (next k)) =
-                then_fits (next k) L M F G (operand (next k)) (λ right. more (e.Bin o left right)) more_joins some_more (operand_fits (next k))
-                (λ x j got. more_fits j (e.Bin o left x) (let l = no_longer (next k) j L F (operand (next k)) x (operand_fits (next k)) got in
-                    let n = behind_next k p h in let m = ap length n.whole in omega arith)) in
+            then_fits (next k) L M F G (operand (next k)) (λ right. more (e.Bin o left right)) more_joins some_more (operand_fits (next k))
+            (λ x j got. more_fits j (e.Bin o left x) (let l = no_longer (next k) j L F (operand (next k)) x (operand_fits (next k)) got in
+            let n = behind_next k p h in let m = ap length n.whole in omega arith)) in
             let whole : Fits k (One p · (L · M)) G ((take >> (operand >>= (λ right. more (e.Bin o left right)))) k) =
-                behind_fits k (next k) (One p) (L · M) Anything G ((operand >>= (λ right. more (e.Bin o left right))) (next k)) (λ us vs a b. tt) (took_one k (next k) p h (refl, refl)) inner in
+            behind_fits k (next k) (One p) (L · M) Anything G ((operand >>= (λ right. more (e.Bin o left right))) (next k)) (λ us vs a b. tt) (took_one k (next k) p h (refl, refl)) inner in
             recast i (One p · (L · M)) T G G (chain_by operand more left (Some o) i) r
             (node_then i p (some.pieces ++ some_more.pieces) (One p · (L · M)) G (take >> (operand >>= (λ right. more (e.Bin o left right)))) h
-                (record { front = p ∷ []; back = some.pieces ++ some_more.pieces; whole = refl; is_front = One.one; is_back = record { front = some.pieces; back = some_more.pieces; whole = refl; is_front = some.shaped; is_back = some_more.shaped } })
-                whole)
+            (record { front = p ∷ []; back = some.pieces ++ some_more.pieces; whole = refl; is_front = One.one; is_back = record { front = some.pieces; back = some_more.pieces; whole = refl; is_front = some.shaped; is_back = some_more.shaped } })
+            whole)
+
         by_found : (found : Option Op) → operator (piece i) ≡ found → Fits i T G (chain_by operand more left found i)
         by_found None is = took_none i i T G (refl, refl) turns.ends (only_none i is)
         by_found (Some o) is = by_piece (piece i) o refl is
@@ -132,7 +133,6 @@ none_left i h = by_list (pieces_left i) h
 
 module _ (rank : Rank) (operator : Option Piece → Option Op) (table : Table rank operator) (L T : Shape) (turns : Turns rank L T T) (F : Follow)
     (ends : (p : Piece) (o : Op) → operator (Some p) ≡ Some o → F (Some p)) (operand : Parser Expr) (operand_fits : (i : Input) → Fits i L F (operand i)) (some : Productive L) where
-
   joins : Joins T F (EndsAll operator F)
   joins = tail_joins rank operator table L T T turns F ends
 

@@ -10,6 +10,7 @@ use Rattle.wf_text.specs.declared.chart_fault.ChartFault.TheVariants as placed
 use Rattle.wf_text.specs.ChartFaults.{token_place}
 use Rattle.wf_text.specs.Text.{chart_of}
 use Rattle.wf_grammar.specs.Lexemes.{lexeme_of}
+use Rattle.wf_grammar.specs.Charts.{IsChart}
 use Rattle.wf_viable.specs.Shapes.{first}
 use Rattle.wf_viable.specs.Charts.{Chart}
 
@@ -84,6 +85,12 @@ abbrev pub ReadIsShaped : Type 0
 ReadIsShaped =
     (text : List ℕ) (chart : Drawing) → chart_of text ≡ Ok chart →
     (tokens : List Token) × (tokens_of text ≡ Ok tokens) × Chart (pieces_of text tokens)
+
+-- tokens that are a text of a chart by the grammar with names and sizes are one by the grammar over pieces
+abbrev pub SpelledIsShaped : Type 0
+SpelledIsShaped =
+    (text : List ℕ) (tokens : List Token) (chart : Drawing) → tokens_of text ≡ Ok tokens → IsChart (map (lexeme_of text) tokens) chart →
+    Chart (pieces_of text tokens)
 
 -- No text that means a chart has the same pieces before a misfit, and the same one there: what follows can't mend it.
 abbrev pub MisfitIsFinal : Type 0

@@ -1,9 +1,6 @@
 -- Lists of pieces, and how lines of a grammar are put together of them.
-use Rattle.std.specs.Prelude.{◌≡◌, List, [], ◌∷◌, ◌++◌, map, Option, Some, None}
-use Rattle.wf_lex.specs.declared.token.Token.{Token}
+use Rattle.std.specs.Prelude.{◌≡◌, List, [], ◌∷◌, ◌++◌, Option, Some, None}
 use Rattle.wf_cursor.specs.declared.piece.Piece.{Piece}
-use Rattle.wf_cursor.specs.Input.{Input}
-use Rattle.wf_grammar.specs.Lexemes.{lexeme_of}
 
 -- the lists of pieces that a line of the grammar allows
 abbrev pub Shape : Type 1

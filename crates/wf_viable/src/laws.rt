@@ -4,6 +4,7 @@ ghost use Rattle.wf_viable.specs.Laws.{
   MisfitIsFinal,
   OtherFaultsFit,
   ReadIsShaped,
+  SpelledIsShaped,
   SyntaxIsFirstMisfit,
 };
 
@@ -27,6 +28,12 @@ pub fn first_misfit_is_told()
 /// The pieces of a text that means a chart are a text of the grammar.
 pub fn read_is_shaped()
     ensures { ReadIsShaped }
+{}
+
+/// Tokens that are a text of a chart by the grammar of `wf_grammar`, which knows names and sizes, are one by the grammar over
+/// pieces.
+pub fn spelled_is_shaped()
+    ensures { SpelledIsShaped }
 {}
 
 /// A misfit is final: no text that means a chart has the same pieces before it and the same one there, whatever follows.

@@ -5,3 +5,7 @@ pub mod Completed
 pub mod LawsHold
 pub mod Admitting
 pub mod ByItems
+pub mod Rows
+pub mod ChartTables
+pub mod Done
+pub mod Closing

@@ -3,11 +3,11 @@ ghost use Rattle.std.specs.Prelude.{◌≡◌, ℕ, ◌+◌, ◌++◌, ◌<◌, 
 ghost use Rattle.std.specs.List.{range_with_len};
 ghost use Rattle.wf_model.specs.Accepted.{IsAccepted};
 ghost use Rattle.wf_model.specs.declared.outer.Outer.TheVariants.{Complete};
-ghost use Rattle.wf_semantics.specs.Run.{items_closed, open_now, done_now, new_items, numbered};
+ghost use Rattle.wf_semantics.specs.Run.{items_closed, open_now, new_items, numbered};
 ghost use Rattle.wf_semantics.specs.Admission.{may_be_admitted, may_come};
 ghost use Rattle.wf_activities.specs.Stock.{items_at, state_with, AreOf};
 
-use crate::{Items, admission};
+use crate::{Items, admission, tables};
 use std::alloc::Global;
 use std::marker::Model;
 use wf_model::{
@@ -40,7 +40,15 @@ impl AllItems {
         ensures items { IfOk result (λ all. (u : ℕ) → items_at all u ≡ []) }
         ensures of { IfOk result (λ all. AreOf checked.now all) }
     {
-        Err(NoMemory)
+        let chart = checked.chart();
+        let units = tables::no_items(alloc, chart)?;
+        let acts = tables::acts(alloc, chart)?;
+        let wanted = tables::wanted(alloc, chart)?;
+        Ok(AllItems {
+            units,
+            acts,
+            wanted,
+        })
     }
 
     /// Whether a unit may admit an outer where these entries are pending, or why not. Grows with the pending entries and the
@@ -125,11 +133,4 @@ impl AllItems {
         let answer = items.may_complete(item, act, outputs, wanted.as_slice());
         admission::after(answer, admission::is_pending(pending, unit, item))
     }
-}
-
-/// For each activity, whether these entries complete an item of it at its unit. Grows with the activities times the entries.
-pub fn done_in(alloc: Global, chart: &Chart, entries: &[Entry]) -> Result<List<bool>, NoMemory>
-    ensures { IfOk result (λ bits. bits ≡ map (done_now chart.now entries.now) (range_with_len 0 (length chart.now.acts))) }
-{
-    Err(NoMemory)
 }

@@ -9,3 +9,8 @@ pub mod Rows
 pub mod ChartTables
 pub mod Done
 pub mod Closing
+pub mod Turns
+pub mod OpenCounts
+pub mod Numbering
+pub mod Adding
+pub mod Stepping

@@ -7,7 +7,7 @@ ghost use Rattle.wf_semantics.specs.Run.{items_closed, open_now, new_items, numb
 ghost use Rattle.wf_semantics.specs.Admission.{may_be_admitted, may_come};
 ghost use Rattle.wf_activities.specs.Stock.{items_at, state_with, AreOf};
 
-use crate::{Items, admission, tables};
+use crate::{Items, admission, completions, growing, numbers, tables};
 use std::alloc::Global;
 use std::marker::Model;
 use wf_model::{
@@ -72,7 +72,7 @@ impl AllItems {
         }
     }
 
-    /// For each activity, how many of its items are open once these entries have closed theirs. Grows with the activities times
+    /// For each activity, how many of its items are open once these entries have closed theirs. Grows with the activities and
     /// the entries, and not with the items.
     pub fn open_then(
         &self,
@@ -85,7 +85,7 @@ impl AllItems {
         requires come { IsTrue (may_come chart.now (state_with (items_at self.now)) entries.now) }
         ensures { IfOk result (λ counts. counts ≡ map (open_now chart.now (state_with (items_at self.now)) entries.now) (range_with_len 0 (length chart.now.acts))) }
     {
-        Err(NoMemory)
+        completions::open_then(alloc, chart, self.units.as_slice(), entries)
     }
 
     /// Closes the items that the entries complete, adds the starts as items of this step, and gives each start with the number
@@ -108,7 +108,11 @@ impl AllItems {
         ensures of { AreOf chart.now self.new }
         ensures err { OnErr result (self.new ≡ self.old) }
     {
-        Err(NoMemory)
+        let numbers = numbers::numbered(alloc, chart, self.units.as_slice(), starts)?;
+        growing::reserve(&mut self.units, starts.len() as u32)?;
+        completions::close_completed(&mut self.units, entries);
+        growing::grow(&mut self.units, self.acts.as_slice(), step, starts);
+        Ok(numbers)
     }
 
     // Whether a unit may admit a completion.

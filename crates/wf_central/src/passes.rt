@@ -24,48 +24,78 @@ fn is_happening(outer: &Outer, e: EventId) -> bool
     }
 }
 
-fn happens(outer: &[Entry], e: EventId) -> bool
-    ensures { result ≡ list_any (λ x. is_happening e.0 x.outer) outer.now }
+fn happens(entries: &[Entry], e: EventId) -> bool
+    ensures { result ≡ list_any (λ x. is_happening e.0 x.outer) entries.now }
 {
-    outer.iter().any(|x| is_happening(&x.outer, e))
+    entries.iter().any(|x| is_happening(&x.outer, e))
 }
 
-fn comes(outer: &[Entry], event: Option<EventId>) -> bool
-    ensures { result ≡ comes outer.now event }
+fn was_raised(raised: &[EventId], e: EventId) -> bool
+    ensures { result ≡ list_any (λ r. r.0 == e.0) raised.now }
+{
+    raised.iter().any(|r| r.0 == e.0)
+}
+
+/// For each event of the chart, whether it is there: raised in the last step, or happening in these entries.
+pub fn there(
+    alloc: Global,
+    chart: &Chart,
+    raised: &[EventId],
+    entries: &[Entry],
+) -> Result<List<bool>, NoMemory>
+    requires { IsAccepted chart.now }
+    ensures { IfOk result (λ bits. bits ≡ map (is_there_by raised.now entries.now) (all_events chart.now)) }
+{
+    let mut bits = List::new(alloc);
+    for e in 0..chart.events.len() {
+        let event = EventId(e as u32);
+        bits.push(was_raised(raised, event) || happens(entries, event))?;
+    }
+    Ok(bits)
+}
+
+fn has_event(there: &[bool], event: Option<EventId>) -> bool
+    ensures { (seen : Seen) → result ≡ has_event (snapshot_by seen there.now) event }
 {
     match event {
-        Some(e) => happens(outer, e),
+        Some(e) => is_set(there, e.0 as usize),
         None => true,
     }
 }
 
-fn is_set(bits: &[bool], at: usize) -> bool
-    ensures { result ≡ bit bits.now at }
+fn has_guard(snap: &StepSnapshot, guard: &Option<Expr>) -> bool
+    requires { all_of ... }
+    ensures { (there : List Bool) → result ≡ has_guard (snapshot_by (seen_of snap.now) there) guard.now }
 {
-    match bits.get(at) {
-        Some(is_set) => *is_set,
-        None => false,
+    match guard {
+        Some(guard) => matches!(value(guard, snap), Ok(Val::Bool(true))),
+        None => true,
     }
 }
 
-fn is_ready(active: &[bool], outer: &[Entry], transition: &Transition) -> bool
+fn is_ready(snap: &StepSnapshot, there: &[bool], transition: &Transition) -> bool
     ensures { result ≡ is_ready_by active.now outer.now transition.now }
 {
-    is_set(active, transition.source.0 as usize) && comes(outer, transition.event)
+    is_set(snap.active, transition.source.0 as usize)
+        && has_event(there, transition.event)
+        && has_guard(snap, &transition.guard)
 }
 
-/// For each transition, whether its source is in and its event comes.
+/// For each transition, whether it is enabled: its source is in, its event there and its guard true. A guard is looked at
+/// only where the other two hold.
 pub fn ready(
     alloc: Global,
     chart: &Chart,
-    active: &[bool],
-    outer: &[Entry],
+    snap: &StepSnapshot,
+    there: &[bool],
 ) -> Result<List<bool>, NoMemory>
-    ensures { IfOk result (λ bits. bits ≡ map (ready_by chart.now active.now outer.now) (all_transitions chart.now)) }
+    requires accepted { IsAccepted chart.now }
+    requires sorts { HasSorts chart.now snap.now.store.now }
+    ensures { IfOk result (λ bits. bits ≡ map (is_enabled chart.now (snapshot_by (seen_of snap.now) there.now)) (all_transitions chart.now)) }
 {
     let mut bits = List::new(alloc);
     for transition in chart.transitions.as_slice() {
-        bits.push(is_ready(active, outer, transition))?;
+        bits.push(is_ready(snap, there, transition))?;
     }
     Ok(bits)
 }

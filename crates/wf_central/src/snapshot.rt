@@ -11,14 +11,14 @@ use wf_model::{ActId, StateId, Val, VarId};
 pub struct StepSnapshot<'a> {
     pub active: &'a [bool],
     pub store: &'a [Val],
-    pub open: &'a [u32],
-    pub done: &'a [bool],
+    pub counts: &'a [u32],
+    pub dones: &'a [bool],
 }
 
 impl Snapshot for StepSnapshot<'_> {
     ghost use Rattle.wf_central.specs.Sight.{seen_by};
 
-    ghost seen = { λ s. seen_by s.active.now s.store.now s.open.now s.done.now };
+    ghost seen = { λ s. seen_by s.active.now s.store.now s.counts.now s.dones.now };
 
     fn is_in(&self, s: StateId) -> bool {
         is_set(self.active, s.0 as usize)
@@ -29,11 +29,11 @@ impl Snapshot for StepSnapshot<'_> {
     }
 
     fn count(&self, a: ActId) -> u32 {
-        number_at(self.open, a.0 as usize)
+        number_at(self.counts, a.0 as usize)
     }
 
     fn done(&self, a: ActId) -> bool {
-        is_set(self.done, a.0 as usize)
+        is_set(self.dones, a.0 as usize)
     }
 }
 

@@ -6,5 +6,7 @@ mod outputs;
 mod passes;
 mod snapshot;
 mod start;
+mod state;
 
 pub use notes::StepNotes;
+pub use state::CentralState;

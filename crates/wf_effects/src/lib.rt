@@ -2,7 +2,9 @@
 #![tactic(auto)]
 
 mod firing;
+mod gathered;
 mod outcome;
+mod raised;
 
 pub use firing::effects;
 pub use outcome::Effects;

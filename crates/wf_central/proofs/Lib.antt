@@ -6,3 +6,4 @@ pub mod Writing
 pub mod Sorts
 pub mod Sights
 pub mod Few
+pub mod Same

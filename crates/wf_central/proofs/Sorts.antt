@@ -1,5 +1,5 @@
 -- Stores that have the sorts of the chart's variables.
-use Rattle.std.proofs.Common.{◌≡◌, ℕ, zero, suc, ◌==◌, ◌&&◌, ◌||◌, not, cond, Bool, true, false, List, [], ◌∷◌, ◌++◌, length, map, set, Option, Some, None, Result, Ok, Err, is_ok, refl, sym, ◌∙◌, ap, ap₂, arith, eqb-true, true≢false, slice_get}
+use Rattle.std.proofs.Common.{◌≡◌, ℕ, zero, suc, ◌<◌, ◌==◌, ◌&&◌, ◌||◌, not, cond, Bool, true, false, List, [], ◌∷◌, ◌++◌, length, map, set, Option, Some, None, Result, Ok, Err, is_ok, refl, sym, ◌∙◌, ap, ap₂, arith, eqb-true, true≢false, slice_get}
 use Rattle.std.specs.List.{list_all}
 use Rattle.std.specs.Option.{option_map, option_map_or}
 use Rattle.wf_model.specs.declared.ids.VarId.{VarId}
@@ -20,6 +20,8 @@ use Rattle.wf_model.specs.Accepted.{IsAccepted, is_sorted, is_sorted_transition}
 use Rattle.wf_model.specs.Seen.{val_sort, option_sort}
 use Rattle.wf_model.specs.Sorts.{var_sort, alike}
 use Rattle.wf_semantics.specs.Items.{item_at}
+use Rattle.std.proofs.lemmas.List.{length-map}
+use Rattle.wf_semantics.proofs.Children.{item_at as item_of}
 use Rattle.wf_semantics.specs.Effects.{after_outputs, after_outer, after_entries}
 use Rattle.wf_semantics.specs.Run.{CentralState}
 use Rattle.wf_semantics.specs.Admission.{may_be_admitted, may_come, may_come_after, is_act_at, is_of, is_closed, is_pending, are_values, are_outputs_of}
@@ -124,3 +126,8 @@ store_sort (y ∷ ys) (x ∷ xs) (suc i) e =
     let all : val_sort y ∷ map val_sort ys ≡ x.sort ∷ map (λ (z : Variable). z.sort) xs = e in
     let tail : map val_sort ys ≡ map (λ (z : Variable). z.sort) xs = cc in
     store_sort ys xs i tail
+
+-- there is a value for each variable
+pub store_has : (chart : Chart) (store : List Val) (x : ℕ) → HasSorts chart store → x < length chart.vars → (v : Val) × (slice_get store x ≡ Some v)
+store_has chart store x sorts lt =
+    item_of store x (omega (arith, ap length sorts, length-map store val_sort, length-map chart.vars (λ (y : Variable). y.sort), lt))

@@ -1,8 +1,13 @@
 -- The raised events, one bit after another.
-use Rattle.std.proofs.Common.{◌≡◌, ℕ, zero, suc, ◌+◌, Bool, true, false, cond, List, [], ◌∷◌, ◌++◌, map, filter, ap, ◌∙◌, arith, refl}
+use Rattle.std.proofs.Common.{◌≡◌, ℕ, zero, suc, ◌+◌, ◌≤◌, length, Bool, true, cond, List, [], ◌∷◌, ◌++◌, map, filter, ap, ◌∙◌, arith}
 use Rattle.std.specs.List.{range_with_len}
+use Rattle.std.proofs.lemmas.Bool.{leb-true}
 use Rattle.std.proofs.lemmas.List.{map-append}
 use Rattle.std.proofs.lemmas.List.Elements.{filter-append}
+use Rattle.wf_model.specs.declared.limits.TheConstants.{MAX_EVENTS}
+use Rattle.wf_model.specs.declared.chart.Chart.{Chart}
+use Rattle.wf_model.specs.Accepted.{IsAccepted, is_small}
+use Rattle.wf_semantics.proofs.Facts.{rules}
 
 range_from : (a i : ℕ) → range_with_len a (suc i) ≡ range_with_len a i ++ (a + i) ∷ []
 range_from a zero = let e : a ≡ a + 0 = omega arith in ap (λ (n : ℕ). n ∷ []) e
@@ -22,3 +27,11 @@ filter_more f p i =
     ap (λ (ns : List ℕ). map f (filter p ns)) (range_more i)
     ∙ ap (map f) (filter-append p (range_with_len 0 i) (i ∷ []))
     ∙ map-append f (filter p (range_with_len 0 i)) (filter p (i ∷ []))
+
+few_of : (chart : Chart) → is_small chart ≡ true → length chart.events ≤ MAX_EVENTS
+unfolding is_small
+few_of chart h = leb-true (length chart.events) MAX_EVENTS (grind arith)
+
+-- an accepted chart has few events
+pub few_events : (chart : Chart) → IsAccepted chart → length chart.events ≤ MAX_EVENTS
+few_events chart ok = few_of chart (rules chart ok).small

@@ -1,9 +1,8 @@
 -- What is gathered from the fired transitions is what the definitions of a step's effects say.
 use Rattle.std.proofs.Common.{◌≡◌, ℕ, zero, suc, ◌+◌, ◌<◌, ◌==◌, ◌&&◌, ◌||◌, Bool, true, false, List, [], ◌∷◌, ◌++◌, length, map, filter, get_or, set, replicate, Ok, Err, Result, Option, Some, None, unwrap_or, slice_get, refl, sym, ap, ◌∙◌, subst, arith, eqb-true, append_assoc, append-nil}
-use Rattle.std.specs.Prelude.{slice_index_or}
 use Rattle.std.specs.List.{list_any, list_all, range_with_len}
 use Rattle.std.specs.Option.{option_map}
-use Rattle.std.proofs.lemmas.List.{length-set, length-replicate, get_or-replicate, get_or-set_same, get_or-set_other}
+use Rattle.std.proofs.lemmas.List.{length-replicate, get_or-replicate, get_or-set_same, get_or-set_other}
 use Rattle.std.proofs.lemmas.Bool.{eqb-false}
 use Rattle.std.proofs.lemmas.Bool.Decides.{nat_tests}
 use Rattle.wf_model.specs.declared.ids.EventId.{EventId}
@@ -27,9 +26,9 @@ use Rattle.wf_semantics.proofs.Bools.{and_both}
 use Rattle.wf_semantics.proofs.Lists.{filter_agree, range_mem}
 use Rattle.wf_effects.specs.declared.gathered.Gathered.{Gathered}
 use Rattle.wf_effects.specs.Seeing.{seeing}
-use Rattle.wf_effects.specs.Performing.{assigned, performed, performed_all, fired_all, events_of}
+use Rattle.wf_effects.specs.Performing.{nothing_yet, assigned, performed, performed_all, fired_all, events_of}
 use Rattle.wf_effects.proofs.Expressions.{AreActionsOf, actions_are, value_of_action, typed}
-use Rattle.wf_effects.proofs.Performed.{sizes_performed, sizes_performed_all, actions_at}
+use Rattle.wf_effects.proofs.Performed.{sizes_performed, sizes_performed_all, size_fired, actions_at}
 
 module _ (chart : Chart) (seen : Seen) (there : ℕ → Bool) where
   -- THE STORE
@@ -48,7 +47,7 @@ module _ (chart : Chart) (seen : Seen) (there : ℕ → Bool) where
   store_all t place (a ∷ acts) g =
       store_all t (place + 1) acts (performed seen t place a g) ∙ ap (after_actions (seeing seen there) acts) (store_performed t place a g)
 
-  pub store_fired : (ts : List ℕ) (g : Gathered) → (fired_all chart seen ts g).store ≡ after_fired chart (seeing seen there) ts g.store
+  store_fired : (ts : List ℕ) (g : Gathered) → (fired_all chart seen ts g).store ≡ after_fired chart (seeing seen there) ts g.store
   store_fired [] g = refl
   store_fired (t ∷ ts) g =
       store_fired ts (performed_all seen t 0 (actions_of chart t) g) ∙ ap (after_fired chart (seeing seen there) ts) (store_all t 0 (actions_of chart t) g)
@@ -112,17 +111,13 @@ module _ (chart : Chart) (seen : Seen) (there : ℕ → Bool) where
       ∙ ap (λ (b : Bool). b || list_any (raises chart snap e) ts) (bit_all t 0 (actions_of chart t) g e lt)
       ∙ or_assoc (get_or g.raised e false) (raises chart snap e t) (list_any (raises chart snap e) ts)
 
-  size_fired : (ts : List ℕ) (g : Gathered) → length (fired_all chart seen ts g).raised ≡ length g.raised
-  size_fired [] g = refl
-  size_fired (t ∷ ts) g = size_fired ts (performed_all seen t 0 (actions_of chart t) g) ∙ (sizes_performed_all seen t 0 (actions_of chart t) g).events
-
-  pub raised_fired : (ts : List ℕ) (g : Gathered) → g.raised ≡ replicate (length chart.events) false → events_of (fired_all chart seen ts g).raised ≡ raised_by chart (seeing seen there) ts
+  raised_fired : (ts : List ℕ) (g : Gathered) → g.raised ≡ replicate (length chart.events) false → events_of (fired_all chart seen ts g).raised ≡ raised_by chart (seeing seen there) ts
   raised_fired ts g none =
       let bits = (fired_all chart seen ts g).raised in
       let asks = λ (e : ℕ). list_any (raises chart (seeing seen there) e) ts in
       let event : ℕ → EventId = λ e. record { 0 = e } in
       let before : length g.raised ≡ length chart.events = ap length none ∙ length-replicate (length chart.events) false in
-      let size : length bits ≡ length chart.events = size_fired ts g ∙ before in
+      let size = size_fired chart seen ts g none in
       ap (λ (n : ℕ). map event (filter (λ e. get_or bits e false) (range_with_len 0 n))) size
       ∙ ap (map event) (filter_agree (λ e. get_or bits e false) asks (range_with_len 0 (length chart.events)) (λ e m.
       let within = range_mem 0 (length chart.events) e m in
@@ -142,7 +137,7 @@ module _ (chart : Chart) (seen : Seen) (there : ℕ → Bool) where
   starts_all t place (Raise e ∷ acts) g = starts_all t (place + 1) acts (performed seen t place (Raise e) g)
   starts_all t place (Start a ∷ acts) g = starts_all t (place + 1) acts (performed seen t place (Start a) g) ∙ append_assoc g.starts (record { act = a; trans = record { 0 = t }; place = place } ∷ []) (starts_from t (place + 1) acts)
 
-  pub starts_fired : (ts : List ℕ) (g : Gathered) → (fired_all chart seen ts g).starts ≡ g.starts ++ starts_of chart ts
+  starts_fired : (ts : List ℕ) (g : Gathered) → (fired_all chart seen ts g).starts ≡ g.starts ++ starts_of chart ts
   starts_fired [] g = sym (append-nil g.starts)
   starts_fired (t ∷ ts) g =
       starts_fired ts (performed_all seen t 0 (actions_of chart t) g)
@@ -198,7 +193,32 @@ module _ (chart : Chart) (seen : Seen) (there : ℕ → Bool) (shows : Shows cha
           (sorts_actions trans.actions store (actions_are chart t trans ok e) h)
 
   -- fired transitions leave each variable a value of its sort
-  pub sorts_fired : (ts : List ℕ) (store : List Val) → IsAccepted chart → HasSorts chart store → HasSorts chart (after_fired chart (seeing seen there) ts store)
+  sorts_fired : (ts : List ℕ) (store : List Val) → IsAccepted chart → HasSorts chart store → HasSorts chart (after_fired chart (seeing seen there) ts store)
   sorts_fired [] store ok h = h
   sorts_fired (t ∷ ts) store ok h =
       sorts_fired ts (after_actions (seeing seen there) (actions_of chart t) store) ok (sorts_transition t store ok h)
+
+-- from what there is first to what there is after the fired transitions
+module _ (chart : Chart) (seen : Seen) (fired : List ℕ) (store : List Val) (g h : Gathered) (first : g ≡ nothing_yet store (length chart.events)) (last : h ≡ fired_all chart seen fired g) where
+  none_first : g.raised ≡ replicate (length chart.events) false
+  none_first = ap (λ (x : Gathered). x.raised) first
+
+  pub store_is : (there : ℕ → Bool) → h.store ≡ after_fired chart (seeing seen there) fired store
+  store_is there =
+      ap (λ (x : Gathered). x.store) last ∙ store_fired chart seen there fired g
+      ∙ ap (λ (x : Gathered). after_fired chart (seeing seen there) fired x.store) first
+
+  pub raised_is : (there : ℕ → Bool) → events_of h.raised ≡ raised_by chart (seeing seen there) fired
+  raised_is there = ap (λ (x : Gathered). events_of x.raised) last ∙ raised_fired chart seen there fired g none_first
+
+  pub raised_size : length h.raised ≡ length chart.events
+  raised_size = ap (λ (x : Gathered). length x.raised) last ∙ size_fired chart seen fired g none_first
+
+  pub starts_is : h.starts ≡ starts_of chart fired
+  starts_is =
+      ap (λ (x : Gathered). x.starts) last ∙ starts_fired chart seen (λ e. false) fired g
+      ∙ ap (λ (x : Gathered). x.starts ++ starts_of chart fired) first
+
+  pub sorts_is : Shows chart seen → IsAccepted chart → HasSorts chart store → HasSorts chart h.store
+  sorts_is shows ok h =
+      subst (HasSorts chart) (sym (store_is (λ e. false))) (sorts_fired chart seen (λ e. false) shows fired store ok h)

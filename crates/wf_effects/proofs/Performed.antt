@@ -1,7 +1,7 @@
 -- What performing actions keeps, and when it may be done.
-use Rattle.std.proofs.Common.{◌≡◌, ℕ, suc, ◌+◌, ◌<◌, true, List, [], ◌∷◌, length, get_or, drop, Ok, Err, Result, Option, Some, unwrap_or, slice_get, refl, sym, ap, subst, ◌∙◌, arith, ltb-true, add-one, drop-cons}
-use Rattle.std.specs.Prelude.{nat_lt, All}
-use Rattle.std.proofs.lemmas.List.{length-set}
+use Rattle.std.proofs.Common.{◌≡◌, ℕ, suc, ◌+◌, ◌<◌, true, false, List, [], ◌∷◌, length, get_or, drop, replicate, Ok, Err, Result, Option, Some, unwrap_or, slice_get, refl, sym, ap, subst, ◌∙◌, ltb-true, add-one, drop-cons}
+use Rattle.std.specs.Prelude.{All}
+use Rattle.std.proofs.lemmas.List.{length-set, length-replicate}
 use Rattle.std.specs.Option.{option_map}
 use Rattle.std.proofs.lemmas.Option.{slice_get-get_or, slice_get_read}
 use Rattle.wf_model.specs.declared.ids.TransId.{TransId}
@@ -47,6 +47,17 @@ sizes_performed_all seen t place (a ∷ acts) g =
 
 pub sizes_after : (seen : Seen) (t : ℕ) (acts : List Action) (g h : Gathered) → h ≡ performed_all seen t 0 acts g → SameSizes g h
 sizes_after seen t acts g h e = subst (SameSizes g) (sym e) (sizes_performed_all seen t 0 acts g)
+
+sizes_fired : (chart : Chart) (seen : Seen) (ts : List ℕ) (g : Gathered) → SameSizes g (fired_all chart seen ts g)
+sizes_fired chart seen [] g = record { vars = refl; events = refl }
+sizes_fired chart seen (t ∷ ts) g =
+    let next = performed_all seen t 0 (actions_of chart t) g in
+    sizes_both g next (fired_all chart seen ts next) (sizes_performed_all seen t 0 (actions_of chart t) g) (sizes_fired chart seen ts next)
+
+-- there is a bit for each event of the chart
+pub size_fired : (chart : Chart) (seen : Seen) (ts : List ℕ) (g : Gathered) → g.raised ≡ replicate (length chart.events) false → length (fired_all chart seen ts g).raised ≡ length chart.events
+size_fired chart seen ts g none =
+    (sizes_fired chart seen ts g).events ∙ ap length none ∙ length-replicate (length chart.events) false
 
 -- each action of an accepted chart may be performed
 can_perform : (chart : Chart) (seen : Seen) (acts : List Action) (i : ℕ) (a : Action) → Shows chart seen → 0 < length chart.events → AreActionsOf chart acts → slice_get acts i ≡ Some a → CanPerform seen (length chart.vars) (length chart.events) a

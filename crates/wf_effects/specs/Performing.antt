@@ -1,5 +1,5 @@
 -- What actions make of what was gathered before them.
-use Rattle.std.specs.Prelude.{ℕ, ◌+◌, ◌++◌, ◌<◌, Bool, true, false, List, [], ◌∷◌, Result, Ok, Err, IsOk, length, map, filter, slice_set, slice_index_or}
+use Rattle.std.specs.Prelude.{ℕ, ◌+◌, ◌++◌, ◌<◌, Bool, true, false, List, [], ◌∷◌, Result, Ok, Err, IsOk, length, map, filter, replicate, slice_set, slice_index_or}
 use Rattle.std.specs.List.{range_with_len}
 use Rattle.wf_model.specs.declared.ids.EventId.{EventId}
 use Rattle.wf_model.specs.declared.value.Val.{Val}
@@ -12,6 +12,10 @@ use Rattle.wf_model.specs.Sorts.{sort_of}
 use Rattle.wf_model.specs.Values.{value_of}
 use Rattle.wf_semantics.specs.Effects.{actions_of}
 use Rattle.wf_effects.specs.declared.gathered.Gathered.{Gathered}
+
+-- this store, of so many events none raised, and nothing started
+abbrev pub nothing_yet : List Val → ℕ → Gathered
+nothing_yet store events = record { store = store; raised = replicate events false; starts = [] }
 
 -- the value is written, and a fault raises event 0
 abbrev pub assigned : ℕ → Result Val Fault → Gathered → Gathered

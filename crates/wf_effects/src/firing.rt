@@ -6,6 +6,8 @@ ghost use Rattle.wf_semantics.specs.Shown.{Shows, HasSorts};
 ghost use Rattle.wf_effects.specs.Seeing.{seeing, numbers};
 
 use crate::Effects;
+use crate::gathered::Gathered;
+use crate::raised::events;
 use std::alloc::Global;
 use wf_expr::Snapshot;
 use wf_model::{Chart, NoMemory, TransId, Val};
@@ -31,5 +33,17 @@ pub fn effects<S: Snapshot>(
     ensures starts { IfOk result (λ e. e.starts ≡ starts_of chart.now (numbers fired.now)) }
     ensures sorts { IfOk result (λ e. HasSorts chart.now e.store) }
 {
-    Err(NoMemory)
+    let mut gathered = Gathered::new(alloc, store, chart.events.len())?;
+    gathered.fire_all(chart, snap, fired)?;
+    let Gathered {
+        store,
+        raised,
+        starts,
+    } = gathered;
+    let raised = events(alloc, raised.as_slice())?;
+    Ok(Effects {
+        store,
+        raised,
+        starts,
+    })
 }

@@ -1,9 +1,9 @@
 //! What is gathered from the actions of the fired transitions, one after another.
-ghost use Rattle.std.specs.Prelude.{◌≡◌, ◌<◌, ◌≤◌, ◌+◌, ◌^◌, ℕ, [], false, length, All, IfOk, OnOk, replicate};
+ghost use Rattle.std.specs.Prelude.{◌≡◌, ◌<◌, ◌≤◌, ◌+◌, ◌^◌, ℕ, length, All, IfOk, OnOk};
 ghost use Rattle.wf_model.specs.Accepted.{IsAccepted};
 ghost use Rattle.wf_semantics.specs.Effects.{actions_of};
 ghost use Rattle.wf_semantics.specs.Shown.{Shows};
-ghost use Rattle.wf_effects.specs.Performing.{performed, performed_all, fired_all, CanPerform};
+ghost use Rattle.wf_effects.specs.Performing.{nothing_yet, performed, performed_all, fired_all, CanPerform};
 ghost use Rattle.wf_effects.specs.Seeing.{numbers};
 
 use std::alloc::Global;
@@ -22,7 +22,7 @@ pub struct Gathered {
 impl Gathered {
     /// This store, of so many events none raised, and nothing started.
     pub fn new(alloc: Global, store: &[Val], events: usize) -> Result<Gathered, NoMemory>
-        ensures { IfOk result (λ g. g ≡ record { store = store.now; raised = replicate events false; starts = [] }) }
+        ensures { IfOk result (λ g. g ≡ nothing_yet store.now events) }
     {
         let store = List::from_slice(alloc, store)?;
         let raised = List::from_vec(vec![in alloc; false; events]?);

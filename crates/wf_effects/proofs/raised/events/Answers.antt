@@ -1,4 +1,4 @@
-use Rattle.std.proofs.Common.{◌≡◌, ℕ, List, [], ◌∷◌, ◌++◌, false, ap, ◌∙◌, append-nil, slice_index_or}
+use Rattle.std.proofs.Common.{ℕ, List, [], ◌∷◌, ◌++◌, false, ap, ◌∙◌, append-nil, slice_index_or}
 use Rattle.wf_model.specs.declared.ids.EventId.{EventId}
 use Rattle.wf_effects.proofs.Bits.{filter_more}
 use Rattle.wf_effects.proofs.raised.events.Goals as goal

@@ -1,4 +1,5 @@
-//! The passes of a step: which transitions are ready, which are chosen, which fire, and which states are in then.
+//! The passes of a step: which events are there, which transitions are ready, which are chosen, which fire, which states
+//! are in then, and what the fired transitions do besides.
 ghost use Rattle.std.specs.Prelude.{◌≡◌, ◌<◌, ◌==◌, ℕ, Bool, List as Listed, None, All, map, filter, length, is_some, IfOk, IfSome};
 ghost use Rattle.std.specs.List.{list_any};
 ghost use Rattle.wf_model.specs.Accepted.{IsAccepted};
@@ -51,7 +52,8 @@ fn is_there(raised: &[EventId], entries: &[Entry], e: EventId) -> bool
     was_raised(raised, e) || happens(entries, e)
 }
 
-/// For each event of the chart, whether it is there: raised in the last step, or happening in these entries.
+/// For each event of the chart, whether it is there: raised in the last step, or happening in these entries. Grows with the
+/// events times the raised ones and the entries.
 pub fn there(
     alloc: Global,
     chart: &Chart,

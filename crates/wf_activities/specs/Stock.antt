@@ -11,6 +11,7 @@ use Rattle.wf_semantics.specs.Items.{Item}
 use Rattle.wf_semantics.specs.Configuration.{Leaf}
 use Rattle.wf_semantics.specs.Run.{CentralState}
 use Rattle.wf_semantics.specs.Admission.{is_act_at}
+use Rattle.wf_activities.specs.UnitItems.{UnitItems}
 
 pub record Stock : Type 0 where
   -- by unit
@@ -23,6 +24,10 @@ pub record Stock : Type 0 where
 -- unit u's items; a number that no unit has has none
 abbrev pub items_at : Stock → ℕ → List Item
 items_at stock u = slice_index_or stock.items u []
+
+-- the same for units' items as they are kept
+abbrev pub items_in : List UnitItems → ℕ → List Item
+items_in units u = slice_index_or (map (λ i. i.items) units) u []
 
 -- a central state with these items, of which nothing else is looked at
 abbrev pub state_with : (ℕ → List Item) → CentralState

@@ -1,0 +1,18 @@
+use Rattle.std.proofs.Common.{ℕ, map, sym, ◌∙◌, ap, arith}
+use Rattle.std.proofs.Math.Seq.{map-set_same}
+use Rattle.wf_activities.specs.UnitItems.{UnitItems}
+use Rattle.wf_activities.proofs.Adding.{room_more}
+use Rattle.wf_activities.proofs.growing.reserve.Goals as goal
+
+pub returns-in_err-reserve-clause-items : goal.returns-in_err-reserve-clause-items
+returns-in_err-reserve-clause-items c =
+    map-set_same (λ (i : UnitItems). i.items) c.loop-unit.units c.loop-unit.unit-index c.reserve.new.self c.unit-item.result c.in_err-reserve.ensures.items ∙ c.loop-unit.invariant.items
+
+pub loop-unit-preserved : goal.loop-unit-preserved
+loop-unit-preserved c = record {
+  items = map-set_same (λ (i : UnitItems). i.items) c.loop-unit.units c.loop-unit.unit-index c.reserve.new.self c.unit-item.result c.in_ok-reserve.ensures.items ∙ c.loop-unit.invariant.items;
+  room = room_more c.loop-unit.units c.loop-unit.unit-index c.args.more c.reserve.new.self (omega arith) c.loop-unit.invariant.room c.in_ok-reserve.ensures.ok;
+}
+
+pub returns-clause-room : goal.returns-clause-room
+returns-clause-room c = λ k d lt. c.loop-unit.invariant.room k d (omega arith)

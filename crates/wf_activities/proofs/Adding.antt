@@ -7,8 +7,7 @@ use Rattle.wf_model.specs.declared.ids.ActId.{ActId}
 use Rattle.wf_model.specs.declared.update.StartAt.{StartAt}
 use Rattle.wf_semantics.specs.Items.{Item, new_item}
 use Rattle.wf_activities.specs.UnitItems.{UnitItems, is_listed, listed}
-use Rattle.wf_activities.specs.Stock.{items_in}
-use Rattle.wf_activities.proofs.Closing.{items_set}
+use Rattle.wf_activities.proofs.Closing.{part_set}
 
 pub room_more : (units : List UnitItems) (i more : ℕ) (y : UnitItems) → i < length units → ((k : ℕ) (d : UnitItems) → k < i → more ≤ (get_or units k d).room) → more ≤ y.room
     → (k : ℕ) (d : UnitItems) → k < i + 1 → more ≤ (get_or (set units i y) k d).room
@@ -29,20 +28,6 @@ listed_few acts (s ∷ ss) = go (is_listed acts s.act.0) (listed_few acts ss)
     go true h = omega arith
     go false h = omega arith
 
-module _ (units : List UnitItems) (i : ℕ) (y : UnitItems) (lt : i < length units) where
-  pub set_here : items_in (set units i y) i ≡ y.items
-  set_here = items_set units i y i lt ∙ ap (λ (b : Bool). cond b y.items (items_in units i)) (eq-eqb i i refl)
-
-  pub set_there : (k : ℕ) → i ≢ k → items_in (set units i y) k ≡ items_in units k
-  set_there k ne = items_set units i y k lt ∙ ap (λ (b : Bool). cond b y.items (items_in units k)) (differ k ne)
-    where
-      differ : (k : ℕ) → i ≢ k → (i == k) ≡ false
-      differ k ne = go (i == k) refl
-        where
-          go : (b : Bool) → (i == k) ≡ b → b ≡ false
-          go true q = absurd (ne (eqb-true i k q))
-          go false q = refl
-
 -- what a call that answers Ok has promised
 pub ok_then : {T E : Type 0} (r : Result T E) (P : Type 0) → OnOk r P → IsOk r → P
 ok_then (Ok x) P h k = h
@@ -52,20 +37,39 @@ ok_then (Err e) P h k = absurd (true≢false (sym k))
 abbrev pub added : List (List ActId) → List StartAt → ℕ → List Item
 added acts starts k = map (λ s. new_item s.act) (listed (get_or acts k []) starts)
 
-module _ (units first : List UnitItems) (acts : List (List ActId)) (starts : List StartAt) (u : ℕ) (y : UnitItems) (lt : u < length units) (new : y.items ≡ items_in first u ++ added acts starts u) where
-  pub grown_more : ((k : ℕ) → k < u → items_in units k ≡ items_in first k ++ added acts starts k) → (k : ℕ) → k < u + 1 → items_in (set units u y) k ≡ items_in first k ++ added acts starts k
+-- the steps of one unit's starts
+abbrev pub steps_added : List (List ActId) → List StartAt → ℕ → ℕ → List ℕ
+steps_added acts starts step k = map (λ s. step) (listed (get_or acts k []) starts)
+
+-- a part of what units keep, of which one unit after another gets more
+module _ {X : Type 0} (part : UnitItems → List X) (more : ℕ → List X) (units first : List UnitItems) (u : ℕ) (y : UnitItems) (lt : u < length units)
+    (new : part y ≡ get_or (map part first) u [] ++ more u) where
+  here : get_or (map part (set units u y)) u [] ≡ part y
+  here = part_set part units u y u lt ∙ ap (λ (b : Bool). cond b (part y) (get_or (map part units) u [])) (eq-eqb u u refl)
+
+  there : (k : ℕ) → u ≢ k → get_or (map part (set units u y)) k [] ≡ get_or (map part units) k []
+  there k ne = part_set part units u y k lt ∙ ap (λ (b : Bool). cond b (part y) (get_or (map part units) k [])) (differ k ne)
+    where
+      differ : (k : ℕ) → u ≢ k → (u == k) ≡ false
+      differ k ne = go (u == k) refl
+        where
+          go : (b : Bool) → (u == k) ≡ b → b ≡ false
+          go true q = absurd (ne (eqb-true u k q))
+          go false q = refl
+
+  pub grown_more : ((k : ℕ) → k < u → get_or (map part units) k [] ≡ get_or (map part first) k [] ++ more k) → (k : ℕ) → k < u + 1 → get_or (map part (set units u y)) k [] ≡ get_or (map part first) k [] ++ more k
   grown_more before k le = go (u == k) refl
     where
-      go : (p : Bool) → (u == k) ≡ p → items_in (set units u y) k ≡ items_in first k ++ added acts starts k
-      go true q = let same : u ≡ k = eqb-true u k q in subst (λ (j : ℕ). items_in (set units u y) j ≡ items_in first j ++ added acts starts j) same (set_here units u y lt ∙ new)
+      go : (p : Bool) → (u == k) ≡ p → get_or (map part (set units u y)) k [] ≡ get_or (map part first) k [] ++ more k
+      go true q = subst (λ (j : ℕ). get_or (map part (set units u y)) j [] ≡ get_or (map part first) j [] ++ more j) (eqb-true u k q) (here ∙ new)
       go false q =
           let other : u ≢ k = λ r. true≢false (sym (eq-eqb u k r) ∙ q) in
-          set_there units u y lt k other ∙ before k (omega arith)
+          there k other ∙ before k (omega arith)
 
-  pub same_more : ((k : ℕ) → u ≤ k → items_in units k ≡ items_in first k) → (k : ℕ) → u + 1 ≤ k → items_in (set units u y) k ≡ items_in first k
-  same_more before k le = set_there units u y lt k (λ e. absurd (omega arith)) ∙ before k (omega arith)
+  pub same_more : ((k : ℕ) → u ≤ k → get_or (map part units) k [] ≡ get_or (map part first) k []) → (k : ℕ) → u + 1 ≤ k → get_or (map part (set units u y)) k [] ≡ get_or (map part first) k []
+  same_more before k le = there k (λ e. absurd (omega arith)) ∙ before k (omega arith)
 
-  pub rooms_more : (n : ℕ) → ((k : ℕ) (d : UnitItems) → u ≤ k → k < length units → n ≤ (get_or units k d).room)
-      → (k : ℕ) (d : UnitItems) → u + 1 ≤ k → k < length (set units u y) → n ≤ (get_or (set units u y) k d).room
-  rooms_more n before k d le within =
-      subst (λ (x : UnitItems). n ≤ x.room) (sym (get_or-set_other units u k y d (λ e. absurd (omega arith)))) (before k d (omega arith) (omega (arith, length-set units u y)))
+pub rooms_more : (units : List UnitItems) (u : ℕ) (y : UnitItems) (n : ℕ) → ((k : ℕ) (d : UnitItems) → u ≤ k → k < length units → n ≤ (get_or units k d).room)
+    → (k : ℕ) (d : UnitItems) → u + 1 ≤ k → k < length (set units u y) → n ≤ (get_or (set units u y) k d).room
+rooms_more units u y n before k d le within =
+    subst (λ (x : UnitItems). n ≤ x.room) (sym (get_or-set_other units u k y d (λ e. absurd (omega arith)))) (before k d (omega arith) (omega (arith, length-set units u y)))

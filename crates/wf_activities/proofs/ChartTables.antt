@@ -12,7 +12,7 @@ use Rattle.wf_model.specs.declared.chart.Chart.{Chart}
 use Rattle.wf_model.specs.Accepted.{IsAccepted, is_small}
 use Rattle.wf_semantics.proofs.Facts.{rules}
 use Rattle.wf_semantics.specs.Items.{Item}
-use Rattle.wf_activities.specs.Stock.{Stock, AreOf, items_at, with_sort, with_sorts, acts_of, wanted_of}
+use Rattle.wf_activities.specs.Stock.{Stock, AreOf, items_at, steps_at, with_sort, with_sorts, acts_of, wanted_of}
 use Rattle.wf_activities.proofs.Rows.{get_replicate}
 
 few_of : (chart : Chart) → is_small chart ≡ Rattle.std.proofs.Common.true → (length chart.units ≤ MAX_UNITS) × (length chart.acts ≤ MAX_ACTS)
@@ -48,3 +48,6 @@ made_of chart stock items acts wanted = record { units = ap length items ∙ len
 
 pub no_items_at : (stock : Stock) (n : ℕ) → stock.items ≡ replicate n [] → (u : ℕ) → items_at stock u ≡ []
 no_items_at stock n e u = ap (λ (l : List (List Item)). get_or l u []) e ∙ get_replicate [] n u
+
+pub no_steps_at : (stock : Stock) (n : ℕ) → stock.steps ≡ replicate n [] → (u : ℕ) → steps_at stock u ≡ []
+no_steps_at stock n e u = ap (λ (l : List (List ℕ)). get_or l u []) e ∙ get_replicate [] n u

@@ -18,12 +18,12 @@ use Rattle.wf_semantics.proofs.Bools.{any_mem, mem_any}
 use Rattle.wf_semantics.proofs.Lists.{mem_range, mem_filter, filter_mem}
 use Rattle.wf_semantics.proofs.Children.{lt_or_ge}
 use Rattle.wf_activities.specs.UnitItems.{UnitItems, is_listed, listed}
-use Rattle.wf_activities.specs.Stock.{Stock, AreOf, items_at, items_in, state_with, act_id, acts_at, acts_of}
+use Rattle.wf_activities.specs.Stock.{Stock, AreOf, items_at, steps_at, items_in, steps_in, state_with, act_id, acts_at, acts_of}
 use Rattle.wf_activities.proofs.Rows.{row_at, row_len}
 use Rattle.wf_activities.proofs.ChartTables.{few}
 use Rattle.wf_activities.proofs.Admitting.{act_there, unit_known, get_within}
-use Rattle.wf_activities.proofs.LawsHold.{grows_by_step}
-use Rattle.wf_activities.proofs.Adding.{added}
+use Rattle.wf_activities.proofs.LawsHold.{grows_by_step, same_starts}
+use Rattle.wf_activities.proofs.Adding.{added, steps_added}
 
 -- the items as they are kept are those that are seen
 pub same_items : (units : List UnitItems) (stock : Stock) → map (λ i. i.items) units ≡ stock.items → items_in units ≡ items_at stock
@@ -100,11 +100,12 @@ listed_acts chart u a = any_act a (filter (is_act_at chart u) (range_with_len 0 
         (mem_filter (is_act_at chart u) (range_with_len 0 (length chart.acts)) a (mem_range 0 (length chart.acts) a (omega arith) (omega (arith, get_within chart.acts a there.0 there.1))) e) (eq-eqb a a refl)
     go false e = by_any (list_any (λ x. x == a) (filter (is_act_at chart u) (range_with_len 0 (length chart.acts)))) refl e
 
-none_at : (chart : Chart) → IsAccepted chart → (u : ℕ) → length chart.units ≤ u → (starts : List StartAt) → new_items chart u starts ≡ []
-none_at chart ok u past [] = refl
-none_at chart ok u past (s ∷ ss) = go (is_act_at chart u s.act.0) refl (none_at chart ok u past ss)
+-- past the units of the chart nothing is started
+no_start : (chart : Chart) → IsAccepted chart → (u : ℕ) → length chart.units ≤ u → (starts : List StartAt) → filter (is_at chart u) starts ≡ []
+no_start chart ok u past [] = refl
+no_start chart ok u past (s ∷ ss) = go (is_act_at chart u s.act.0) refl (no_start chart ok u past ss)
   where
-    go : (b : Bool) → is_act_at chart u s.act.0 ≡ b → new_items chart u ss ≡ [] → map (λ s. new_item s.act) (cond b (s ∷ filter (is_at chart u) ss) (filter (is_at chart u) ss)) ≡ []
+    go : (b : Bool) → is_act_at chart u s.act.0 ≡ b → filter (is_at chart u) ss ≡ [] → cond b (s ∷ filter (is_at chart u) ss) (filter (is_at chart u) ss) ≡ []
     go true e r = let there = act_there chart u s.act.0 e in absurd (omega (arith, unit_known chart ok s.act.0 there.0 there.1, there.2))
     go false e r = r
 
@@ -132,7 +133,23 @@ taken chart stock entries starts before after ok of closed lb la grown u = elim 
       get_or_past (map (λ (i : UnitItems). i.items) after) u [] (omega (arith, length-map after (λ (i : UnitItems). i.items)))
       ∙ sym (ap₂ (λ (l m : List Item). l ++ m)
       (ap (close_all (completions_at u entries)) (get_or_past stock.items u [] (omega (arith, lb))) ∙ close_all_none (completions_at u entries))
-      (none_at chart ok u (omega (arith, lb, of.units)) starts))
+      (ap (map (λ (s : StartAt). new_item s.act)) (no_start chart ok u (omega (arith, lb, of.units)) starts)))
+]
+
+-- the steps after the step, unit by unit
+pub steps_taken : (chart : Chart) (stock : Stock) (starts : List StartAt) (step : ℕ) (before after : List UnitItems) → IsAccepted chart → AreOf chart stock
+    → map (λ i. i.steps) before ≡ stock.steps → length before ≡ length stock.items → length after ≡ length before
+    → ((u : ℕ) → u < length before → steps_in after u ≡ steps_in before u ++ steps_added stock.acts starts step u)
+    → (u : ℕ) → steps_in after u ≡ steps_at stock u ++ map (λ s. step) (filter (is_at chart u) starts)
+steps_taken chart stock starts step before after ok of kept lb la grown u = elim (lt_or_ge u (length before)) [
+  | inl lt ↦
+      grown u lt
+      ∙ ap₂ (λ (l : List ℕ) (m : List StartAt). l ++ map (λ s. step) m) (ap (λ (l : List (List ℕ)). get_or l u []) kept)
+      (ap (λ (ids : List ActId). listed ids starts) (acts_read chart stock u of (omega (arith, lt, lb, of.units))) ∙ same_starts (λ s. is_listed (acts_at chart u) s.act.0) (is_at chart u) (λ s. listed_acts chart u s.act.0) starts)
+  | inr ge ↦
+      get_or_past (map (λ (i : UnitItems). i.steps) after) u [] (omega (arith, length-map after (λ (i : UnitItems). i.steps)))
+      ∙ sym (ap₂ (λ (l : List ℕ) (m : List StartAt). l ++ map (λ s. step) m)
+      (get_or_past stock.steps u [] (omega (arith, ap length kept, length-map before (λ (i : UnitItems). i.steps)))) (no_start chart ok u (omega (arith, lb, of.units)) starts))
 ]
 
 -- the units' items as they go through the step: room is made, then items are closed
@@ -152,6 +169,10 @@ module _ {Z : Type 0} (v : Vec UnitItems Z) (stock : Stock) (seen : map (λ i. i
 
     pub closed_items : (u : ℕ) → items_in third u ≡ close_all (completions_at u entries) (items_at stock u)
     closed_items u = ap (λ (l : List UnitItems). items_in l u) closed_is ∙ closes u ∙ ap (λ (f : ℕ → List Item). close_all (completions_at u entries) (f u)) reserved_items
+
+    pub closed_steps : map (λ i. i.steps) v.items ≡ stock.steps → map (λ i. i.steps) reserved ≡ map (λ i. i.steps) first → map (λ i. i.steps) closed ≡ map (λ i. i.steps) second → map (λ i. i.steps) third ≡ stock.steps
+    closed_steps kept made stay =
+        ap (map (λ (i : UnitItems). i.steps)) closed_is ∙ stay ∙ ap (map (λ (i : UnitItems). i.steps)) reserved_is ∙ made ∙ ap (map (λ (i : UnitItems). i.steps)) lent ∙ kept
 
     pub closed_length : length third ≡ length stock.items
     closed_length = ap length closed_is ∙ long_still ∙ ap length reserved_is ∙ long ∙ ap length lent ∙ sym (length-map v.items (λ (i : UnitItems). i.items)) ∙ ap length seen

@@ -1,11 +1,11 @@
 //! The items of all units of a chart.
-ghost use Rattle.std.specs.Prelude.{◌≡◌, ℕ, ◌+◌, ◌++◌, ◌<◌, ◌^◌, [], length, map, IsTrue, IfOk, OnOk, OnErr};
+ghost use Rattle.std.specs.Prelude.{◌≡◌, ℕ, ◌+◌, ◌++◌, ◌<◌, ◌^◌, [], length, map, filter, IsTrue, IfOk, OnOk, OnErr};
 ghost use Rattle.std.specs.List.{range_with_len};
 ghost use Rattle.wf_model.specs.Accepted.{IsAccepted};
 ghost use Rattle.wf_model.specs.declared.outer.Outer.TheVariants.{Complete};
-ghost use Rattle.wf_semantics.specs.Run.{items_closed, open_now, new_items, numbered};
+ghost use Rattle.wf_semantics.specs.Run.{items_closed, open_now, is_at, new_items, numbered};
 ghost use Rattle.wf_semantics.specs.Admission.{may_be_admitted, may_come};
-ghost use Rattle.wf_activities.specs.Stock.{items_at, state_with, AreOf};
+ghost use Rattle.wf_activities.specs.Stock.{items_at, steps_at, state_with, AreOf};
 
 use crate::{Items, admission, completions, growing, numbers, tables};
 use std::alloc::Global;
@@ -30,7 +30,12 @@ impl Model for AllItems {
 
     ghost Value = { Stock };
 
-    ghost view = { λ a. record { items = map (λ i. i.items) a.units.items; acts = a.acts; wanted = a.wanted } };
+    ghost view = { λ a. record {
+      items = map (λ i. i.items) a.units.items;
+      steps = map (λ i. i.steps) a.units.items;
+      acts = a.acts;
+      wanted = a.wanted;
+    } };
 }
 
 impl AllItems {
@@ -38,6 +43,7 @@ impl AllItems {
     /// with the outputs.
     pub fn of(alloc: Global, checked: &Checked) -> Result<AllItems, NoMemory>
         ensures items { IfOk result (λ all. (u : ℕ) → items_at all u ≡ []) }
+        ensures steps { IfOk result (λ all. (u : ℕ) → steps_at all u ≡ []) }
         ensures of { IfOk result (λ all. AreOf checked.now all) }
     {
         let chart = checked.chart();
@@ -104,6 +110,7 @@ impl AllItems {
         requires come { IsTrue (may_come chart.now (state_with (items_at self.old)) entries.now) }
         requires room { (u : ℕ) → length (items_at self.old u) + length starts.now < 2 ^ 32 }
         ensures items { OnOk result (items_at self.new ≡ (λ u. items_closed (state_with (items_at self.old)) entries.now u ++ new_items chart.now u starts.now)) }
+        ensures steps { OnOk result ((u : ℕ) → steps_at self.new u ≡ steps_at self.old u ++ map (λ s. step) (filter (is_at chart.now u) starts.now)) }
         ensures numbered { IfOk result (λ n. n ≡ numbered chart.now (λ u. length (items_at self.old u)) starts.now) }
         ensures of { AreOf chart.now self.new }
         ensures err { OnErr result (self.new ≡ self.old) }

@@ -96,6 +96,7 @@ pub fn done_in(alloc: Global, chart: &Chart, entries: &[Entry]) -> Result<List<b
 fn close_one(units: &mut [Items], entry: &Entry)
     requires { CompleteInTurn (items_in units.old) (entry.now ∷ []) }
     ensures items { (u : ℕ) → items_in units.new u ≡ close_all (completions_at u (entry.now ∷ [])) (items_in units.old u) }
+    ensures steps { map (λ i. i.steps) units.new ≡ map (λ i. i.steps) units.old }
     ensures rooms { map (λ i. i.room) units.new ≡ map (λ i. i.room) units.old }
 {
     if let Outer::Complete { item, .. } = entry.outer {
@@ -107,6 +108,7 @@ fn close_one(units: &mut [Items], entry: &Entry)
 pub fn close_completed(units: &mut [Items], entries: &[Entry])
     requires { CompleteInTurn (items_in units.old) entries.now }
     ensures items { (u : ℕ) → items_in units.new u ≡ close_all (completions_at u entries.now) (items_in units.old u) }
+    ensures steps { map (λ i. i.steps) units.new ≡ map (λ i. i.steps) units.old }
     ensures rooms { map (λ i. i.room) units.new ≡ map (λ i. i.room) units.old }
 {
     for entry in entries {

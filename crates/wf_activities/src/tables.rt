@@ -66,7 +66,8 @@ pub fn wanted(alloc: Global, chart: &Chart) -> Result<List<List<(VarId, Sort)>>,
 /// No item yet, for each unit.
 pub fn no_items(alloc: Global, chart: &Chart) -> Result<Vec<Items>, NoMemory>
     requires { IsAccepted chart.now }
-    ensures { IfOk result (λ units. map (λ i. i.items) units.items ≡ replicate (length chart.now.units) []) }
+    ensures items { IfOk result (λ units. map (λ i. i.items) units.items ≡ replicate (length chart.now.units) []) }
+    ensures steps { IfOk result (λ units. map (λ i. i.steps) units.items ≡ replicate (length chart.now.units) []) }
 {
     let mut units = Vec::new(alloc);
     for u in 0..chart.units.len() {

@@ -15,6 +15,7 @@ loop-entry-preserved c = record {
   turn = rest_in_turn c.args.entries.now c.loop-entry.entry-index c.entry-item.result (omega arith) c.entry-item.is c.loop-entry.units c.close_one.new.units c.close_one.ensures.items c.loop-entry.invariant.turn;
   rest = rest_closed c.args.entries.now c.loop-entry.entry-index c.entry-item.result (omega arith) c.entry-item.is c.loop-entry.units c.close_one.new.units c.close_one.ensures.items
       (λ u. close_all (completions_at u c.args.entries.now) (items_in c.args.units.now u)) c.loop-entry.invariant.rest;
+  steps = c.close_one.ensures.steps ∙ c.loop-entry.invariant.steps;
   rooms = c.close_one.ensures.rooms ∙ c.loop-entry.invariant.rooms;
 }
 
@@ -23,5 +24,6 @@ returns c = record {
   items = λ u.
       ap (λ (es : List Entry). close_all (completions_at u es) (items_in c.loop-entry.units u)) (sym (drop_all c.loop-entry.entry-index c.args.entries.now (omega arith)))
       ∙ c.loop-entry.invariant.rest u;
+  steps = c.loop-entry.invariant.steps;
   rooms = c.loop-entry.invariant.rooms;
 }

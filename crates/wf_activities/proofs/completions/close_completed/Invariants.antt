@@ -9,5 +9,6 @@ abbrev pub invariant-loop-entry : goal.invariant-loop-entry
 invariant-loop-entry l = record {
   turn : CompleteInTurn (items_in l.units) (drop l.entry-index l.entries);
   rest : (u : ℕ) → close_all (completions_at u (drop l.entry-index l.entries)) (items_in l.units u) ≡ close_all (completions_at u l.entries) (items_in l.initial.units u);
+  steps : map (λ i. i.steps) l.units ≡ map (λ i. i.steps) l.initial.units;
   rooms : map (λ i. i.room) l.units ≡ map (λ i. i.room) l.initial.units;
 }

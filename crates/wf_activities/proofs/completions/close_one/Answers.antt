@@ -24,5 +24,6 @@ returns-in-Complete c = record {
       let open_now = head_open c.args.entry.now c.in-Complete.item c.in-Complete.act c.in-Complete.outputs (items_in c.args.units.now c.args.entry.now.unit.0) c.in-Complete.is (c.requires c.args.entry.now.unit.0) in
       closed_one c.args.units.now c.args.entry.now c.in-Complete.item c.in-Complete.act c.in-Complete.outputs c.close.new.self c.index-units-entry.result c.in-Complete.is
       (unit_within c.args.units.now c.args.entry.now.unit.0 c.in-Complete.item open_now) c.close.ensures.items;
+  steps = map-set_same (λ (i : UnitItems). i.steps) c.args.units.now c.args.entry.now.unit.0 c.close.new.self c.index-units-entry.result c.close.ensures.steps;
   rooms = map-set_same (λ (i : UnitItems). i.room) c.args.units.now c.args.entry.now.unit.0 c.close.new.self c.index-units-entry.result c.close.ensures.room;
 }

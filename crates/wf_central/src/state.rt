@@ -111,9 +111,8 @@ impl CentralState {
 
     /// Takes one step, in which these entries come: each of them may be admitted where those before it are pending. Grows with
     /// the states times their depth, the transitions, the nodes of the guards that are looked at and of the assigned values,
-    /// the actions that fire, the variables, the outputs, the events times those raised in the last step and the entries, the
-    /// activities and the entries, and the units times the starts times a unit's activities; not with the items. After
-    /// `NoMemory` the state is as before.
+    /// the actions that fire, the variables, the outputs, the events times the entries, the activities, and the units times
+    /// the starts times a unit's activities; not with the items. After `NoMemory` the state is as before.
     pub fn step(
         &mut self,
         alloc: Global,

@@ -1,5 +1,5 @@
 -- The outers of a script: an event, or an item that is done, with the values that it gives.
-use Rattle.std.specs.Prelude.{◌≡◌, ℕ, Bool, true, false, ◌++◌, List, [], ◌∷◌, Option, Some, None, if◌then◌else◌}
+use Rattle.std.specs.Prelude.{◌≡◌, ℕ, Bool, true, false, not, ◌++◌, take_while, List, [], ◌∷◌, Option, Some, None, if◌then◌else◌}
 use Rattle.std.specs.Option.{option_map}
 use Rattle.std.specs.Str.{bytes_eq}
 use lib.Chars.{codes}
@@ -26,13 +26,17 @@ output_of names line (x ∷ []) = None
 output_of names line (x ∷ equals ∷ value) =
     if bytes_eq (text_at line equals) (codes "=") then given (names.var (text_at line x)) (value_of line value) else None
 
+abbrev pub is_comma : List ℕ → Token → Bool
+is_comma line t = bytes_eq (text_at line t) (codes ",")
+
+-- the tokens before the first comma
+abbrev pub first_group : List ℕ → List Token → List Token
+first_group line tokens = take_while (λ t. not (is_comma line t)) tokens
+
 -- these groups of tokens, where the token stands before the first one
 abbrev pub with_token : Token → List (List Token) → List (List Token)
 with_token t [] = (t ∷ []) ∷ []
 with_token t (group ∷ groups) = (t ∷ group) ∷ groups
-
-abbrev pub is_comma : List ℕ → Token → Bool
-is_comma line t = bytes_eq (text_at line t) (codes ",")
 
 -- the tokens before the first comma, those up to the next one, and so on
 abbrev pub between_commas : List ℕ → List Token → List (List Token)

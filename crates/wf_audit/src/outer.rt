@@ -1,5 +1,5 @@
 //! The outers of a script.
-ghost use Rattle.std.specs.Prelude.{◌≡◌, ◌≤◌, length, take_while, not, IfOk, IfSome};
+ghost use Rattle.std.specs.Prelude.{◌≡◌, ◌≤◌, length, drop, IfOk, IfSome};
 ghost use Rattle.wf_audit.specs.Finders.{finder_of};
 ghost use Rattle.wf_audit.specs.Outers as spec;
 
@@ -56,13 +56,23 @@ fn is_comma(line: &[u8], token: &Token) -> bool
 
 // How many tokens stand before the first comma.
 fn group_len(line: &[u8], tokens: &[Token]) -> usize
-    ensures exact { result ≡ length (take_while (λ t. not (spec.is_comma line.now t)) tokens.now) }
+    ensures exact { result ≡ length (spec.first_group line.now tokens.now) }
     ensures within { result ≤ length tokens.now }
 {
     tokens
         .iter()
         .take_while(|token| !is_comma(line, token))
         .count()
+}
+
+// The tokens before the first comma, and those from it on.
+#[tactic(auto, using(crate::proofs::Commas::first_group_front))]
+fn split_group<'a>(line: &[u8], tokens: &'a [Token]) -> (&'a [Token], &'a [Token])
+    ensures group { result.0.now ≡ spec.first_group line.now tokens.now }
+    ensures behind { result.1.now ≡ drop (length (spec.first_group line.now tokens.now)) tokens.now }
+{
+    let len = group_len(line, tokens);
+    (&tokens[..len], &tokens[len..])
 }
 
 // The outputs `x = value { , x = value }`, if these tokens are such.
@@ -78,14 +88,14 @@ fn outputs_of(
     let mut outputs = List::new(alloc);
     let mut rest = tokens;
     loop {
-        let len = group_len(line, rest);
-        if !add_output(&mut outputs, names, line, &rest[..len])? {
+        let (group, behind) = split_group(line, rest);
+        if !add_output(&mut outputs, names, line, group)? {
             return Ok(None);
         }
-        if len == rest.len() {
+        let [_comma, more @ ..] = behind else {
             return Ok(Some(outputs));
-        }
-        rest = &rest[len + 1..];
+        };
+        rest = more;
     }
 }
 

@@ -88,7 +88,7 @@ and_assoc : (p q r : Bool) → (p && (q && r)) ≡ ((p && q) && r)
 and_assoc true q r = refl
 and_assoc false q r = refl
 
-values_wanted : (chart : Chart) (xs : List VarId) (ws : List (VarId × Sort)) (os : List Output) → HaveSorts chart xs ws → are_values chart xs os ≡ are_wanted ws os
+pub values_wanted : (chart : Chart) (xs : List VarId) (ws : List (VarId × Sort)) (os : List Output) → HaveSorts chart xs ws → are_values chart xs os ≡ are_wanted ws os
 values_wanted chart [] [] [] h = refl
 values_wanted chart [] [] (o ∷ os) h = refl
 values_wanted chart [] (w ∷ ws) os h = absurd h

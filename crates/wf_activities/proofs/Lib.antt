@@ -3,3 +3,5 @@ pub mod Counting
 pub mod Wanted
 pub mod Completed
 pub mod LawsHold
+pub mod Admitting
+pub mod ByItems

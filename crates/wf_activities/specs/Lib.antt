@@ -1,3 +1,4 @@
 pub mod UnitItems
 pub mod Completing
 pub mod Laws
+pub mod Stock

@@ -1,6 +1,8 @@
 //! The items of one unit: the starts of its activities, numbered from 1, and which of them are closed.
 #![tactic(auto)]
 
+mod admission;
+mod all_items;
 mod counts;
 mod items;
 mod laws;
@@ -9,6 +11,7 @@ mod starts;
 #[cfg(test)]
 mod tests;
 
+pub use all_items::{AllItems, done_in};
 pub use items::Items;
 pub use laws::{
     closed_stays_closed, closes_one, completes_by_admission, counts_open_items, grows_by_step,

@@ -11,7 +11,7 @@ mod script;
 mod tests;
 mod values;
 
-pub use central::{MAX_PLAIN_LINES, run_central};
+pub use central::{RunFault, run_central};
 pub use lines::{Division, divide, line_count};
-pub use reply::{Reply, append_reply};
+pub use reply::{Reply, reply_line};
 pub use script::{CentralLine, ScriptFault, read_central};

@@ -52,18 +52,21 @@ fn scripts(rt: HostRuntime) -> Result<(), Fail> {
     let checked = checked(alloc, SIDES.as_bytes())?;
     let script = b"outer a event f\r\n# nothing\n step\nshow # now";
     let lines = read_central(alloc, checked.chart(), script)?;
-    assert_eq!(rt; lines.len(), 4);
+    assert_eq!(rt; lines.len(), 3);
     assert!(rt;
         matches!(
             lines.get(0),
-            Some(Some(CentralLine::Outer {
-                unit: UnitId(0),
-                outer: Outer::Happen(EventId(2)),
-            }))
+            Some((
+                1,
+                CentralLine::Outer {
+                    unit: UnitId(0),
+                    outer: Outer::Happen(EventId(2)),
+                }
+            ))
         )
     );
-    assert!(rt; matches!(lines.get(1), Some(None)));
-    assert!(rt; matches!(lines.get(3), Some(Some(CentralLine::Show))));
+    assert!(rt; matches!(lines.get(1), Some((3, CentralLine::Step))));
+    assert!(rt; matches!(lines.get(2), Some((4, CentralLine::Show))));
     let fault = read_central(alloc, checked.chart(), b"step\n\nouter f event a\n").err();
     assert_eq!(rt; fault, Some(ScriptFault::Refused { line: 3 }));
     Ok(())

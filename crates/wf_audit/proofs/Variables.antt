@@ -1,9 +1,10 @@
 -- The values of a chart's variables, one by one.
-use Rattle.std.proofs.Common.{◌≡◌, ℕ, zero, suc, ◌+◌, List, [], ◌∷◌, ◌++◌, Option, Some, is_some, unwrap_or, true≢false, length, map, take, slice_get, sym, ◌∙◌, ap, arith, length-map}
+use Rattle.std.proofs.Common.{◌≡◌, ℕ, zero, suc, ◌+◌, List, [], ◌∷◌, ◌++◌, Option, Some, is_some, unwrap_or, true≢false, length, map, take, slice_get, sym, ◌∙◌, ap, arith}
 use Rattle.std.specs.List.{enumerate_from}
-use Rattle.std.proofs.lemmas.List.{take_all}
+use Rattle.std.proofs.lemmas.List.{take_all, length-map}
 use Rattle.wf_model.specs.declared.value.Val.{Val}
 use Rattle.wf_model.specs.declared.chart.Chart.{Chart}
+use Rattle.wf_model.specs.declared.chart.Variable.{Variable}
 use Rattle.wf_model.specs.declared.outer.Output.{Output}
 use Rattle.wf_model.specs.Seen.{val_sort}
 use Rattle.wf_semantics.specs.Shown.{HasSorts}
@@ -15,11 +16,8 @@ outputs_from at store = map output (enumerate_from at store)
 
 outputs_from-more : (at : ℕ) (store : List Val) (x : ℕ) (val : Val) → slice_get store x ≡ Some val
     → outputs_from at (take (suc x) store) ≡ outputs_from at (take x store) ++ output (at + x, val) ∷ []
-outputs_from-more at [] x val is = absurd (none x is)
-  where
-    none : (x : ℕ) → slice_get {A = Val} [] x ≡ Some val → ⊥
-    none zero e = true≢false (sym (ap is_some e))
-    none (suc x) e = true≢false (sym (ap is_some e))
+outputs_from-more at [] zero val is = absurd (true≢false (sym (ap (λ (o : Option Val). is_some o) is)))
+outputs_from-more at [] (suc x) val is = absurd (true≢false (sym (ap (λ (o : Option Val). is_some o) is)))
 outputs_from-more at (v ∷ store) zero val is =
     let here : at ≡ at + zero = omega arith in
     let same : v ≡ val = ap (λ (o : Option Val). unwrap_or o val) is in
@@ -38,4 +36,6 @@ outputs_more store x val is =
 -- each variable has a value
 pub store_whole : (chart : Chart) (store : List Val) → HasSorts chart store → take (length chart.vars) store ≡ store
 store_whole chart store sorts =
-    take_all (length chart.vars) store (omega (arith, sym (length-map val_sort store) ∙ ap length sorts ∙ length-map (λ x. x.sort) chart.vars))
+    let sort = λ (x : Variable). x.sort in
+    let values : length store ≡ length chart.vars = sym (length-map store val_sort) ∙ ap length sorts ∙ length-map chart.vars sort in
+    take_all (length chart.vars) store (omega (arith, values))

@@ -1,4 +1,4 @@
-use Rattle.std.proofs.Common.{◌≡◌, ◌≢◌, [], length, ap, arith, rules}
+use Rattle.std.proofs.Common.{◌≢◌, [], length, ap, arith, rules}
 use Rattle.wf_audit.specs.Lines.{lines_of}
 use Rattle.wf_audit.proofs.Divided.{behind_line-shorter}
 use Rattle.wf_audit.proofs.Split.{lines_of-count}

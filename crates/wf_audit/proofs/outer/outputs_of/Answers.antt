@@ -1,5 +1,4 @@
-use Rattle.std.proofs.Common.{◌≡◌, ◌∙◌, ap, sym, arith, length, Option, List, Some, append-nil}
-use Rattle.wf_model.specs.declared.outer.Output.{Output}
+use Rattle.std.proofs.Common.{◌≡◌, ◌∙◌, ap, sym, arith, length, List, Some, append-nil}
 use Rattle.wf_lex.specs.declared.token.Token.{Token}
 use Rattle.wf_audit.specs.Finders.{finder_of}
 use Rattle.wf_audit.specs.Outers.{between_commas, each_output, outputs_of}

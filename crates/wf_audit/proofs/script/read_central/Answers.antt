@@ -1,4 +1,4 @@
-use Rattle.std.proofs.Common.{rules, arith, ◌≡◌, ◌≢◌, ◌+◌, ℕ, [], List, Option, Result, Ok, Err, length, sym, ◌∙◌, ap, subst}
+use Rattle.std.proofs.Common.{rules, arith, ◌≡◌, ◌≢◌, ◌+◌, ℕ, [], List, Result, Ok, Err, length, sym, ◌∙◌, ap, subst}
 use Rattle.wf_audit.specs.declared.script.CentralLine.{CentralLine}
 use Rattle.wf_audit.specs.declared.script.ScriptFault.{ScriptFault}
 use Rattle.wf_audit.specs.Lines.{lines_of}

@@ -183,12 +183,7 @@ fn append_text(text: &mut Bytes, chart: &Chart, reply: &Reply) -> Result<(), NoM
 /// The line of the reply to the script's line with this number. A number that the chart hasn't is written as an empty
 /// name. Linear in what is written.
 #[tactic(auto, unfolding(crate::specs::Replies::numbered))]
-pub fn reply_line(
-    alloc: Global,
-    chart: &Chart,
-    line: u32,
-    reply: &Reply,
-) -> Result<Bytes, NoMemory>
+pub fn reply_line(alloc: Global, chart: &Chart, line: u32, reply: &Reply) -> Result<Bytes, NoMemory>
     ensures { IfOk result (λ text. text ≡ spec.numbered line (spec.reply_text chart.now reply.now)) }
 {
     let mut text = List::new(alloc);

@@ -4,8 +4,8 @@ use std::alloc::Global;
 use std::test::Fail;
 use wf_central::StepNotes;
 use wf_model::{
-    ActId, Activity, Chart, Event, EventId, Kind, List, Name, NoMemory, Outer, OuterFault,
-    Output, Sort, State, StateId, TransId, Txt, UnitId, Val, VarId, Variable,
+    ActId, Activity, Chart, Event, EventId, Kind, List, Name, NoMemory, Outer, OuterFault, Output,
+    Sort, State, StateId, TransId, Txt, UnitId, Val, VarId, Variable,
 };
 
 fn state(

@@ -105,11 +105,7 @@ fn append_type(text: &mut Bytes, chart: &Chart, place: TypePlace) -> Result<(), 
 }
 
 #[tactic(auto, unfolding(crate::specs::CheckFaults::check_fault_line))]
-fn append_check_fault(
-    text: &mut Bytes,
-    chart: &Chart,
-    fault: CheckFault,
-) -> Result<(), NoMemory>
+fn append_check_fault(text: &mut Bytes, chart: &Chart, fault: CheckFault) -> Result<(), NoMemory>
     ensures { OnOk result (text.new ≡ text.old ++ spec.check_fault_line chart.now fault) }
 {
     match fault {

@@ -31,7 +31,6 @@ fn run(alloc: Global, chart: &Checked, lines: &[(u32, CentralLine)]) -> Result<A
 }
 
 // The answer to a script of few enough lines.
-#[tactic(auto, using(wf_audit::proofs::Counted::script_short))]
 fn answer_lines(alloc: Global, chart: &Checked, script: &[u8]) -> Result<Answer, NoMemory>
     requires within { length script.now ≤ MAX_INPUT }
     requires few { length (lines_of script.now) ≤ MAX_LINES }

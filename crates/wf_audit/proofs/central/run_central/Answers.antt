@@ -13,7 +13,11 @@ returns-in_err-add c =
     let same : c.from_residual-in_err-add.result ≡ Err c.in_err-add.field-0.0 = search rules in
     let line = ap length (c.as_slice.ensures ∙ c.in_ok-answer.ensures.text) in
     let long : length c.loop-number.text + length c.as_slice.result.now ≤ length whole =
-    omega (arith, line, replies_long chart (standing_of chart c.loop-number.run) c.loop-number.number-index c.args.script.now c.loop-number-item.result c.loop-number.text whole
-    c.loop-number-test.true c.loop-number-item.is c.loop-number.invariant.text) in
+    omega (
+      arith,
+      line,
+      replies_long chart (standing_of chart c.loop-number.run) c.loop-number.number-index c.args.script.now c.loop-number-item.result c.loop-number.text whole
+          c.loop-number-test.true c.loop-number-item.is c.loop-number.invariant.text,
+    ) in
     subst (λ (r : Result (List ℕ) RunFault). GivesText r whole) (sym same)
     (gives_fault c.in_err-add.field-0.0 c.loop-number.text c.add.new.text c.as_slice.result.now whole c.in_err-add.ensures long)

@@ -1,4 +1,4 @@
-use Rattle.std.proofs.Common.{◌≡◌, ◌∙◌, ◌≤◌, ◌<◌, length, IfSome, Some, None, refl, sym, ap, rules}
+use Rattle.std.proofs.Common.{◌≡◌, ◌∙◌, ◌≤◌, ◌<◌, length, IfSome, Some, None, refl, ap, inl, rules}
 use Rattle.std.specs.Io.KnownBytes.{Consumes, IsAtEnd}
 use lib.Chars.{codes}
 use Rattle.wf_model.specs.declared.limits.TheConstants.{MAX_INPUT}

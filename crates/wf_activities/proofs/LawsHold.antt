@@ -108,7 +108,7 @@ unfolding may_be_admitted may_complete
 completes_by_admission chart c pending u n a outputs act wanted at_unit free known sorts =
     rw (at_unit, free, or_no, known, values_wanted chart act.outputs wanted outputs sorts) refl
 
-same_starts : (p q : StartAt → Bool) → ((s : StartAt) → p s ≡ q s) → (starts : List StartAt) → filter p starts ≡ filter q starts
+pub same_starts : (p q : StartAt → Bool) → ((s : StartAt) → p s ≡ q s) → (starts : List StartAt) → filter p starts ≡ filter q starts
 same_starts p q h [] = refl
 same_starts p q h (s ∷ starts) = ap₂ (λ (b : Bool) (l : List StartAt). cond b (s ∷ l) l) (h s) (same_starts p q h starts)
 

@@ -2,3 +2,4 @@ pub mod UnitItems
 pub mod Completing
 pub mod Laws
 pub mod Stock
+pub mod Completed

@@ -11,10 +11,13 @@ use Rattle.wf_semantics.specs.Items.{Item}
 use Rattle.wf_semantics.specs.Configuration.{Leaf}
 use Rattle.wf_semantics.specs.Run.{CentralState}
 use Rattle.wf_semantics.specs.Admission.{is_act_at}
+use Rattle.wf_activities.specs.UnitItems.{UnitItems}
 
 pub record Stock : Type 0 where
   -- by unit
   pub items : List (List Item)
+  -- by unit: the step of each item's start
+  pub steps : List (List ℕ)
   -- by unit: its activities
   pub acts : List (List ActId)
   -- by activity: the variables that a completion gives, each with its sort
@@ -23,6 +26,17 @@ pub record Stock : Type 0 where
 -- unit u's items; a number that no unit has has none
 abbrev pub items_at : Stock → ℕ → List Item
 items_at stock u = slice_index_or stock.items u []
+
+-- the steps of unit u's items
+abbrev pub steps_at : Stock → ℕ → List ℕ
+steps_at stock u = slice_index_or stock.steps u []
+
+-- the same of the items as each unit keeps them
+abbrev pub items_in : List UnitItems → ℕ → List Item
+items_in units u = slice_index_or (map (λ i. i.items) units) u []
+
+abbrev pub steps_in : List UnitItems → ℕ → List ℕ
+steps_in units u = slice_index_or (map (λ i. i.steps) units) u []
 
 -- a central state with these items, of which nothing else is looked at
 abbrev pub state_with : (ℕ → List Item) → CentralState

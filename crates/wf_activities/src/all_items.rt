@@ -1,13 +1,13 @@
 //! The items of all units of a chart.
-ghost use Rattle.std.specs.Prelude.{◌≡◌, ℕ, ◌+◌, ◌++◌, ◌<◌, ◌^◌, [], length, map, IsTrue, IfOk, OnOk, OnErr};
+ghost use Rattle.std.specs.Prelude.{◌≡◌, ℕ, ◌+◌, ◌++◌, ◌<◌, ◌^◌, [], length, map, filter, IsTrue, IfOk, OnOk, OnErr};
 ghost use Rattle.std.specs.List.{range_with_len};
 ghost use Rattle.wf_model.specs.Accepted.{IsAccepted};
 ghost use Rattle.wf_model.specs.declared.outer.Outer.TheVariants.{Complete};
-ghost use Rattle.wf_semantics.specs.Run.{items_closed, open_now, done_now, new_items, numbered};
+ghost use Rattle.wf_semantics.specs.Run.{items_closed, open_now, is_at, new_items, numbered};
 ghost use Rattle.wf_semantics.specs.Admission.{may_be_admitted, may_come};
-ghost use Rattle.wf_activities.specs.Stock.{items_at, state_with, AreOf};
+ghost use Rattle.wf_activities.specs.Stock.{items_at, steps_at, state_with, AreOf};
 
-use crate::{Items, admission};
+use crate::{Items, admission, completions, growing, numbers, tables};
 use std::alloc::Global;
 use std::marker::Model;
 use wf_model::{
@@ -30,7 +30,12 @@ impl Model for AllItems {
 
     ghost Value = { Stock };
 
-    ghost view = { λ a. record { items = map (λ i. i.items) a.units.items; acts = a.acts; wanted = a.wanted } };
+    ghost view = { λ a. record {
+      items = map (λ i. i.items) a.units.items;
+      steps = map (λ i. i.steps) a.units.items;
+      acts = a.acts;
+      wanted = a.wanted;
+    } };
 }
 
 impl AllItems {
@@ -38,9 +43,18 @@ impl AllItems {
     /// with the outputs.
     pub fn of(alloc: Global, checked: &Checked) -> Result<AllItems, NoMemory>
         ensures items { IfOk result (λ all. (u : ℕ) → items_at all u ≡ []) }
+        ensures steps { IfOk result (λ all. (u : ℕ) → steps_at all u ≡ []) }
         ensures of { IfOk result (λ all. AreOf checked.now all) }
     {
-        Err(NoMemory)
+        let chart = checked.chart();
+        let units = tables::no_items(alloc, chart)?;
+        let acts = tables::acts(alloc, chart)?;
+        let wanted = tables::wanted(alloc, chart)?;
+        Ok(AllItems {
+            units,
+            acts,
+            wanted,
+        })
     }
 
     /// Whether a unit may admit an outer where these entries are pending, or why not. Grows with the pending entries and the
@@ -64,7 +78,7 @@ impl AllItems {
         }
     }
 
-    /// For each activity, how many of its items are open once these entries have closed theirs. Grows with the activities times
+    /// For each activity, how many of its items are open once these entries have closed theirs. Grows with the activities and
     /// the entries, and not with the items.
     pub fn open_then(
         &self,
@@ -77,7 +91,7 @@ impl AllItems {
         requires come { IsTrue (may_come chart.now (state_with (items_at self.now)) entries.now) }
         ensures { IfOk result (λ counts. counts ≡ map (open_now chart.now (state_with (items_at self.now)) entries.now) (range_with_len 0 (length chart.now.acts))) }
     {
-        Err(NoMemory)
+        completions::open_then(alloc, chart, self.units.as_slice(), entries)
     }
 
     /// Closes the items that the entries complete, adds the starts as items of this step, and gives each start with the number
@@ -96,11 +110,16 @@ impl AllItems {
         requires come { IsTrue (may_come chart.now (state_with (items_at self.old)) entries.now) }
         requires room { (u : ℕ) → length (items_at self.old u) + length starts.now < 2 ^ 32 }
         ensures items { OnOk result (items_at self.new ≡ (λ u. items_closed (state_with (items_at self.old)) entries.now u ++ new_items chart.now u starts.now)) }
+        ensures steps { OnOk result ((u : ℕ) → steps_at self.new u ≡ steps_at self.old u ++ map (λ s. step) (filter (is_at chart.now u) starts.now)) }
         ensures numbered { IfOk result (λ n. n ≡ numbered chart.now (λ u. length (items_at self.old u)) starts.now) }
         ensures of { AreOf chart.now self.new }
         ensures err { OnErr result (self.new ≡ self.old) }
     {
-        Err(NoMemory)
+        let numbers = numbers::numbered(alloc, chart, self.units.as_slice(), starts)?;
+        growing::reserve(&mut self.units, starts.len() as u32)?;
+        completions::close_completed(&mut self.units, entries);
+        growing::grow(&mut self.units, self.acts.as_slice(), step, starts);
+        Ok(numbers)
     }
 
     // Whether a unit may admit a completion.
@@ -125,11 +144,4 @@ impl AllItems {
         let answer = items.may_complete(item, act, outputs, wanted.as_slice());
         admission::after(answer, admission::is_pending(pending, unit, item))
     }
-}
-
-/// For each activity, whether these entries complete an item of it at its unit. Grows with the activities times the entries.
-pub fn done_in(alloc: Global, chart: &Chart, entries: &[Entry]) -> Result<List<bool>, NoMemory>
-    ensures { IfOk result (λ bits. bits ≡ map (done_now chart.now entries.now) (range_with_len 0 (length chart.now.acts))) }
-{
-    Err(NoMemory)
 }

@@ -7,3 +7,4 @@ pub mod Sorts
 pub mod Sights
 pub mod Few
 pub mod Same
+pub mod Marking

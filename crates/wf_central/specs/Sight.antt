@@ -21,9 +21,12 @@ seen_by active store counts dones =
 abbrev pub CanBeRead : Seen → Expr → Type 0
 CanBeRead seen e = IsOk (sort_of (var_sorts seen) e) × HasAll seen e
 
+abbrev pub was_raised : List EventId → ℕ → Bool
+was_raised raised e = list_any (λ r. r.0 == e) raised
+
 -- the event was raised in the last step, or happens now
 abbrev pub is_there_by : List EventId → List Entry → ℕ → Bool
-is_there_by raised entries e = list_any (λ r. r.0 == e) raised || list_any (λ x. is_happening e x.outer) entries
+is_there_by raised entries e = was_raised raised e || list_any (λ x. is_happening e x.outer) entries
 
 abbrev pub all_events : Chart → List ℕ
 all_events chart = range_with_len 0 (length chart.events)

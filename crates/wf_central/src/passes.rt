@@ -1,5 +1,6 @@
-//! The passes of a step: which transitions are ready, which are chosen, which fire, and which states are in then.
-ghost use Rattle.std.specs.Prelude.{◌≡◌, ◌<◌, ◌==◌, ℕ, Bool, List as Listed, None, All, map, filter, length, is_some, IfOk, IfSome};
+//! The passes of a step: which events are there, which transitions are ready, which are chosen, which fire, which states
+//! are in then, and what the fired transitions do besides.
+ghost use Rattle.std.specs.Prelude.{◌≡◌, ◌<◌, ◌||◌, ℕ, Bool, true, false, List as Listed, None, All, map, filter, length, is_some, slice_set, IfOk, IfSome};
 ghost use Rattle.std.specs.List.{list_any};
 ghost use Rattle.wf_model.specs.Accepted.{IsAccepted};
 ghost use Rattle.wf_model.specs.Seen.{Seen};
@@ -12,7 +13,7 @@ ghost use Rattle.wf_scopes.specs.Tables.{tables_of, ancestor_ids};
 ghost use Rattle.wf_effects.specs.Seeing.{seeing};
 ghost use Rattle.wf_central.specs.Kept.{bit};
 ghost use Rattle.wf_central.specs.Passes.{trans_id, at, chosen_by, firing_by, fired_by, first_ids, bit_by, moved_by};
-ghost use Rattle.wf_central.specs.Sight.{CanBeRead, is_there_by, all_events};
+ghost use Rattle.wf_central.specs.Sight.{CanBeRead, was_raised, is_there_by, all_events};
 ghost use Rattle.wf_central.specs.Made.{seen_of, AreBits, MakesWalk, IsSeen, MakesStep};
 
 use crate::snapshot::{StepSnapshot, is_set};
@@ -39,19 +40,44 @@ fn happens(entries: &[Entry], e: EventId) -> bool
     entries.iter().any(|x| is_happening(&x.outer, e))
 }
 
-fn was_raised(raised: &[EventId], e: EventId) -> bool
-    ensures { result ≡ list_any (λ r. r.0 == e.0) raised.now }
+// No event, for each event of the chart.
+fn none_there(alloc: Global, chart: &Chart) -> Result<List<bool>, NoMemory>
+    ensures { IfOk result (λ bits. bits ≡ map (λ e. false) (all_events chart.now)) }
 {
-    raised.iter().any(|r| r.0 == e.0)
+    let mut bits = List::new(alloc);
+    for _event in chart.events.as_slice() {
+        bits.push(false)?;
+    }
+    Ok(bits)
 }
 
-fn is_there(raised: &[EventId], entries: &[Entry], e: EventId) -> bool
-    ensures { result ≡ is_there_by raised.now entries.now e.0 }
+fn mark(bits: &mut List<bool>, at: usize)
+    ensures { bits.new ≡ slice_set bits.old at true }
 {
-    was_raised(raised, e) || happens(entries, e)
+    if at < bits.len() {
+        bits.set(at, true);
+    }
 }
 
-/// For each event of the chart, whether it is there: raised in the last step, or happening in these entries.
+// For each event of the chart, whether it was raised.
+fn marked(alloc: Global, chart: &Chart, raised: &[EventId]) -> Result<List<bool>, NoMemory>
+    ensures { IfOk result (λ bits. bits ≡ map (was_raised raised.now) (all_events chart.now)) }
+{
+    let mut bits = none_there(alloc, chart)?;
+    for event in raised {
+        mark(&mut bits, event.0 as usize);
+    }
+    Ok(bits)
+}
+
+fn is_there(marked: &[bool], entries: &[Entry], e: EventId) -> bool
+    ensures { result ≡ (bit marked.now e.0 || list_any (λ x. is_happening e.0 x.outer) entries.now) }
+{
+    is_set(marked, e.0 as usize) || happens(entries, e)
+}
+
+/// For each event of the chart, whether it is there: raised in the last step, or happening in these entries. Grows with the
+/// events times the entries.
 pub fn there(
     alloc: Global,
     chart: &Chart,
@@ -61,9 +87,10 @@ pub fn there(
     requires { IsAccepted chart.now }
     ensures { IfOk result (λ bits. bits ≡ map (is_there_by raised.now entries.now) (all_events chart.now)) }
 {
+    let marked = marked(alloc, chart, raised)?;
     let mut bits = List::new(alloc);
     for e in 0..chart.events.len() {
-        bits.push(is_there(raised, entries, EventId(e as u32)))?;
+        bits.push(is_there(marked.as_slice(), entries, EventId(e as u32)))?;
     }
     Ok(bits)
 }

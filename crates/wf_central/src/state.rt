@@ -109,10 +109,10 @@ impl CentralState {
         self.items.may_admit(checked.chart(), pending, unit, outer)
     }
 
-    /// Takes one step, in which these entries come: each of them may be admitted after those before it, as `may_admit` tells.
-    /// Grows with the states times their depth, with the transitions and the nodes of the guards of those whose source is in
-    /// and whose event is there, with the actions of those that fire, and with the events and the activities times the
-    /// entries, and not with the items. After `NoMemory` the state is as before.
+    /// Takes one step, in which these entries come: each of them may be admitted where those before it are pending. Grows with
+    /// the states times their depth, the transitions, the nodes of the guards that are looked at and of the assigned values,
+    /// the actions that fire, the variables, the outputs, the events times the entries, the activities, and the units times
+    /// the starts times a unit's activities; not with the items. After `NoMemory` the state is as before.
     pub fn step(
         &mut self,
         alloc: Global,

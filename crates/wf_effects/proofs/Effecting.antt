@@ -30,6 +30,36 @@ use Rattle.wf_effects.specs.Performing.{nothing_yet, assigned, performed, perfor
 use Rattle.wf_effects.proofs.Expressions.{AreActionsOf, actions_are, value_of_action, typed}
 use Rattle.wf_effects.proofs.Performed.{sizes_performed, sizes_performed_all, size_fired, actions_at}
 
+or_assoc : (a b c : Bool) → ((a || b) || c) ≡ (a || (b || c))
+or_assoc true b c = refl
+or_assoc false b c = refl
+
+or_false : (a : Bool) → a ≡ (a || false)
+or_false true = refl
+or_false false = refl
+
+or_true : (a : Bool) → true ≡ (a || true)
+or_true true = refl
+or_true false = refl
+
+-- a bit that is set
+bit_set : (bits : List Bool) (f e : ℕ) → e < length bits → get_or (set bits f true) e false ≡ (get_or bits e false || (f == e))
+bit_set bits f e lt = go (f == e) refl
+  where
+    go : (b : Bool) → (f == e) ≡ b → get_or (set bits f true) e false ≡ (get_or bits e false || b)
+    go true q =
+        let same : f ≡ e = eqb-true f e q in
+        subst (λ (n : ℕ). get_or (set bits n true) e false ≡ true) (sym same) (get_or-set_same bits e true false lt) ∙ or_true (get_or bits e false)
+    go false q = get_or-set_other bits f e true false (λ s. eqb-false f e q (sym s)) ∙ or_false (get_or bits e false)
+
+flip : (e : ℕ) → (0 == e) ≡ ((e == 0) && true)
+flip zero = refl
+flip (suc e) = grind (arith, nat_tests)
+
+and_false : (b : Bool) → false ≡ (b && false)
+and_false true = refl
+and_false false = refl
+
 module _ (chart : Chart) (seen : Seen) (there : ℕ → Bool) where
   -- THE STORE
 
@@ -53,36 +83,6 @@ module _ (chart : Chart) (seen : Seen) (there : ℕ → Bool) where
       store_fired ts (performed_all seen t 0 (actions_of chart t) g) ∙ ap (after_fired chart (seeing seen there) ts) (store_all t 0 (actions_of chart t) g)
 
   -- RAISED EVENTS
-
-  or_assoc : (a b c : Bool) → ((a || b) || c) ≡ (a || (b || c))
-  or_assoc true b c = refl
-  or_assoc false b c = refl
-
-  or_false : (a : Bool) → a ≡ (a || false)
-  or_false true = refl
-  or_false false = refl
-
-  or_true : (a : Bool) → true ≡ (a || true)
-  or_true true = refl
-  or_true false = refl
-
-  -- a bit that is set
-  bit_set : (bits : List Bool) (f e : ℕ) → e < length bits → get_or (set bits f true) e false ≡ (get_or bits e false || (f == e))
-  bit_set bits f e lt = go (f == e) refl
-    where
-      go : (b : Bool) → (f == e) ≡ b → get_or (set bits f true) e false ≡ (get_or bits e false || b)
-      go true q =
-          let same : f ≡ e = eqb-true f e q in
-          subst (λ (n : ℕ). get_or (set bits n true) e false ≡ true) (sym same) (get_or-set_same bits e true false lt) ∙ or_true (get_or bits e false)
-      go false q = get_or-set_other bits f e true false (λ s. eqb-false f e q (sym s)) ∙ or_false (get_or bits e false)
-
-  flip : (e : ℕ) → (0 == e) ≡ ((e == 0) && true)
-  flip zero = refl
-  flip (suc e) = grind (arith, nat_tests)
-
-  and_false : (b : Bool) → false ≡ (b && false)
-  and_false true = refl
-  and_false false = refl
 
   bit_assigned : (x : ℕ) (r : Result Val Fault) (g : Gathered) (e : ℕ) → e < length g.raised → get_or (assigned x r g).raised e false ≡ (get_or g.raised e false || ((e == 0) && is_fault r))
   bit_assigned x (Ok val) g e lt = or_false (get_or g.raised e false) ∙ ap (λ (b : Bool). get_or g.raised e false || b) (and_false (e == 0))

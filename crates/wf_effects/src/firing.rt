@@ -16,6 +16,8 @@ use wf_model::{Chart, NoMemory, TransId, Val};
 /// one over `snap`. `store` is what the outputs of completions left; the assignments are written into a copy of it, in
 /// order, so that a later one stays. An assignment whose value is a fault writes nothing and raises event 0.
 ///
+/// `NoMemory` is the only refusal.
+///
 /// In linear time in the actions of the transitions and the nodes of their expressions, in the variables and in the events.
 pub fn effects<S: Snapshot>(
     alloc: Global,

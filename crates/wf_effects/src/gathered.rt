@@ -1,5 +1,5 @@
 //! What is gathered from the actions of the fired transitions, one after another.
-ghost use Rattle.std.specs.Prelude.{◌≡◌, ◌<◌, ◌≤◌, ◌+◌, ◌^◌, ℕ, length, All, IfOk, OnOk};
+ghost use Rattle.std.specs.Prelude.{◌≡◌, ◌<◌, ◌≤◌, ◌+◌, ◌^◌, ℕ, length, All, IfOk, OnOk, OnErr};
 ghost use Rattle.wf_model.specs.Accepted.{IsAccepted};
 ghost use Rattle.wf_semantics.specs.Effects.{actions_of};
 ghost use Rattle.wf_semantics.specs.Shown.{Shows};
@@ -42,7 +42,8 @@ impl Gathered {
         action: &Action,
     ) -> Result<(), NoMemory>
         requires { CanPerform (S.seen snap.now) (length self.old.store) (length self.old.raised) action.now }
-        ensures { OnOk result (self.new ≡ performed (S.seen snap.now) trans.0 place action.now self.old) }
+        ensures ok { OnOk result (self.new ≡ performed (S.seen snap.now) trans.0 place action.now self.old) }
+        ensures err { OnErr result (self.new ≡ self.old) }
     {
         match action {
             Action::Assign(x, expr) => match value(expr, snap) {

@@ -1,0 +1,5 @@
+pub mod Runs
+pub mod Starts
+pub mod Completions
+pub mod Sight
+pub mod Laws

@@ -1,0 +1,11 @@
+pub mod Fits
+pub mod Steps
+pub mod Repeats
+pub mod Turns
+pub mod Chains
+pub mod Phrases
+pub mod Declarations
+pub mod Transitions
+pub mod States
+pub mod Whole
+pub mod Places

@@ -1,0 +1,4 @@
+pub mod Shapes
+pub mod Expressions
+pub mod Charts
+pub mod Laws

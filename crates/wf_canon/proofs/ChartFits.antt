@@ -1,5 +1,5 @@
 -- The spans of a chart are its canonical text, and none of its tokens runs into the next one.
-use Rattle.std.proofs.Common.{◌≡◌, ℕ, zero, suc, ◌+◌, ◌*◌, ◌^◌, ◌<◌, ◌==◌, ◌&&◌, Bool, true, false, nat_lt, nat_le, List, [], ◌∷◌, ◌++◌, length, get_or, flat_map, map, drop, Option, Some, None, pos, negsuc, refl, sym, ◌∙◌, ap, arith, append-nil}
+use Rattle.std.proofs.Common.{◌≡◌, ℕ, zero, suc, ◌+◌, ◌*◌, ◌^◌, ◌<◌, ◌==◌, ◌&&◌, Bool, true, false, nat_lt, nat_le, List, [], ◌∷◌, ◌++◌, length, get_or, flat_map, map, drop, Option, Some, None, pos, negsuc, refl, sym, ◌∙◌, ap, subst, arith, append-nil}
 use Rattle.std.specs.List.{list_all}
 use Rattle.std.specs.Fmt.{decimal}
 use lib.Chars.{codes}
@@ -41,17 +41,18 @@ use Rattle.wf_print.specs.Transitions as trans
 use Rattle.wf_print.specs.Transitions.{action_text, transition_line}
 use Rattle.wf_print.specs.ChartText.{chart_text}
 use Rattle.wf_grammar.specs.Lexemes.{lexeme_of}
+use Rattle.wf_canon.specs.Cuts.{IsCut}
 use Rattle.wf_canon.specs.Spans.{Span}
 use Rattle.wf_canon.specs.Expressions.{sign, blank, expr_spans, has_short_literals}
 use Rattle.wf_canon.specs.Charts as spans
 use Rattle.wf_canon.specs.Charts.{one, first, between, parting, line_end, literal_spans, action_spans, kind_spans, state_spans, chart_spans, is_short_value, is_short_action, is_short_transition, is_short}
-use Rattle.wf_canon.specs.Laws.{ChartIsCut}
+use Rattle.wf_canon.specs.Laws.{EveryChartIsCut, ChartIsCut}
 use Rattle.wf_canon.proofs.Written.{expr_is_written}
 use Rattle.wf_canon.proofs.Literals.{decimal_is}
 use Rattle.wf_canon.proofs.Named.{HasNames, has_names, name_is_word, below, unit_named, event_named, var_named, act_named, state_named}
 use Rattle.wf_canon.proofs.Known.{is_named_of, all_both, all_behind, known, IsKnown}
 use Rattle.wf_canon.proofs.Apart.{expr_is_apart, digits_token, text_token, no_digit}
-use Rattle.wf_canon.proofs.Cut.{written_is_cut}
+use Rattle.wf_canon.proofs.Cut.{every_written_is_cut, written_is_cut}
 use Rattle.wf_canon.proofs.Fits.{Fits, none, join, three, four, five, each, found, word_fits, first_fits, between_fits, parting_fits, line_end_fits, comma_fits, minus_fits, open_brace_fits, close_brace_fits, indent_fits}
 
 colon_token : IsToken token.Sign (codes ":") []
@@ -277,6 +278,12 @@ module _ (chart : Chart) (named : is_named chart ≡ true) where
 
 pub chart_fits : (chart : Chart) → IsAccepted chart → is_short chart ≡ true → Fits false false (chart_spans chart) (chart_text chart)
 chart_fits chart ok short = let named = is_named_of chart ok in whole chart named (has_names chart named) (known chart ok) short
+
+pub every_chart_is_cut : EveryChartIsCut
+every_chart_is_cut chart ok short =
+    let fits = chart_fits chart ok short in
+    let found = every_written_is_cut (chart_spans chart) (fits.apart [] tt) in
+    (found.0, subst (λ t. IsCut t found.0) fits.says found.1, ap (λ t. map (lexeme_of t) found.0) (sym fits.says) ∙ found.2)
 
 pub chart_is_cut : ChartIsCut
 chart_is_cut chart ok short few =

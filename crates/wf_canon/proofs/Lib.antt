@@ -3,6 +3,7 @@ pub mod Literals
 pub mod Named
 pub mod Spelled
 pub mod Kept
+pub mod Slices
 pub mod Cut
 pub mod Apart
 pub mod ReadBack

@@ -1,5 +1,5 @@
 -- The canonical text of an expression is cut into tokens, and they are read as that expression.
-use Rattle.std.specs.Prelude.{◌≡◌, ◌≤◌, ℕ, ◌++◌, false, List, [], length, drop, slice_index, map, Ok, IsTrue}
+use Rattle.std.specs.Prelude.{◌≡◌, ◌≤◌, ◌↔◌, ℕ, ◌++◌, false, List, [], length, drop, slice_index, map, Ok, IsTrue}
 use Rattle.wf_model.specs.declared.limits.TheConstants.{MAX_TOKENS, MAX_NODES}
 use Rattle.wf_model.specs.declared.chart.Chart.{Chart}
 use Rattle.wf_model.specs.declared.expr.Expr.{Expr}
@@ -14,11 +14,26 @@ use Rattle.wf_phrase.specs.Expressions.{expr}
 use Rattle.wf_grammar.specs.Lexemes.{Lexeme, lexeme_of, lexemes}
 use Rattle.wf_grammar.specs.Phrases.{Names, Rank, Spells}
 use Rattle.wf_grammar.specs.Laws.{behind, first_piece, IsNoOperator}
+use Rattle.wf_canon.specs.Cuts.{IsCut}
 use Rattle.wf_canon.specs.Spans.{Span, written, lexemes_of, AreApart}
 use Rattle.wf_canon.specs.Expressions.{expr_spans, has_short_literals, AreDeclared}
 use Rattle.wf_canon.specs.Charts.{chart_spans, is_short}
 
--- a text of blanks and tokens is cut into these tokens
+-- at most MAX_TOKENS tokens that a text is cut into are those that the tokenizer answers, and the other way round
+abbrev pub CutIsAnswered : Type 0
+CutIsAnswered = (text : List ℕ) (tokens : List Token) → length tokens ≤ MAX_TOKENS → (IsCut text tokens ↔ (tokens_of text ≡ Ok tokens))
+
+-- a text is cut in at most one way
+abbrev pub CutsAreEqual : Type 0
+CutsAreEqual = (text : List ℕ) (tokens other : List Token) → IsCut text tokens → IsCut text other → tokens ≡ other
+
+-- a text of blanks and tokens is cut into these tokens, however many they are
+abbrev pub EveryWrittenIsCut : Type 0
+EveryWrittenIsCut =
+    (spans : List Span) → AreApart spans [] →
+    (tokens : List Token) × IsCut (written spans) tokens × (map (lexeme_of (written spans)) tokens ≡ lexemes_of spans)
+
+-- the tokenizer answers them, where there are at most MAX_TOKENS
 abbrev pub WrittenIsCut : Type 0
 WrittenIsCut =
     (spans : List Span) → AreApart spans [] → length (lexemes_of spans) ≤ MAX_TOKENS →
@@ -65,8 +80,13 @@ ExprIsReadBack =
     × ((i : Input) → i.text ≡ text_around before chart x after → i.left ≡ drop (length (lexemes_of before)) tokens → AreDeclared i.names chart →
     expr i ≡ Ok (x, behind (length (lexemes_of (expr_spans chart x))) (nodes x) i))
 
--- The canonical text of an accepted chart is cut into the tokens of its spans, where there are at most MAX_TOKENS. A large chart's
--- text may have more.
+-- the canonical text of an accepted chart is cut into the tokens of its spans, however many they are
+abbrev pub EveryChartIsCut : Type 0
+EveryChartIsCut =
+    (chart : Chart) → IsAccepted chart → IsTrue (is_short chart) →
+    (tokens : List Token) × IsCut (chart_text chart) tokens × (map (lexeme_of (chart_text chart)) tokens ≡ lexemes_of (chart_spans chart))
+
+-- The tokenizer answers them, where there are at most MAX_TOKENS. A large chart's text may have more.
 abbrev pub ChartIsCut : Type 0
 ChartIsCut =
     (chart : Chart) → IsAccepted chart → IsTrue (is_short chart) → length (lexemes_of (chart_spans chart)) ≤ MAX_TOKENS →

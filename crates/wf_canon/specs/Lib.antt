@@ -1,3 +1,4 @@
+pub mod Cuts
 pub mod Spans
 pub mod Expressions
 pub mod Charts

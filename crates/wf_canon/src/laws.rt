@@ -1,8 +1,36 @@
 //! Laws of the canonical text.
-ghost use Rattle.wf_canon.specs.Laws.{ChartIsCut, ExprIsApart, ExprIsRead, ExprIsReadBack, ExprIsSpelled, ExprIsWritten, WrittenIsCut};
+ghost use Rattle.wf_canon.specs.Laws.{
+  ChartIsCut,
+  CutIsAnswered,
+  CutsAreEqual,
+  EveryChartIsCut,
+  EveryWrittenIsCut,
+  ExprIsApart,
+  ExprIsRead,
+  ExprIsReadBack,
+  ExprIsSpelled,
+  ExprIsWritten,
+  WrittenIsCut,
+};
 
-/// A text that is written as blanks and tokens, where no token runs into the next one, is cut into these tokens, if they aren't
-/// too many.
+/// The tokens that a text is cut into are those that the tokenizer answers, and the other way round, if they are at most as many
+/// as it answers.
+pub fn cut_is_answered()
+    ensures { CutIsAnswered }
+{}
+
+/// A text is cut into tokens in at most one way, however many they are.
+pub fn cuts_are_equal()
+    ensures { CutsAreEqual }
+{}
+
+/// A text that is written as blanks and tokens, where no token runs into the next one, is cut into these tokens, however many they
+/// are.
+pub fn every_written_is_cut()
+    ensures { EveryWrittenIsCut }
+{}
+
+/// The tokenizer answers these tokens, if they aren't too many.
 pub fn written_is_cut()
     ensures { WrittenIsCut }
 {}
@@ -34,8 +62,12 @@ pub fn expr_is_read_back()
     ensures { ExprIsReadBack }
 {}
 
-/// The canonical text of an accepted chart is cut into the tokens of its spans, if they aren't too many: the text of a large chart
-/// may have more than can be read.
+/// The canonical text of an accepted chart is cut into the tokens of its spans, however many they are.
+pub fn every_chart_is_cut()
+    ensures { EveryChartIsCut }
+{}
+
+/// The tokenizer answers these tokens, if they aren't too many: the text of a large chart may have more than can be read.
 pub fn chart_is_cut()
     ensures { ChartIsCut }
 {}

@@ -9,5 +9,7 @@ pub mod Declarations
 pub mod Loops
 pub mod States
 pub mod Ordered
+pub mod Operators
 pub mod Short
 pub mod Whole
+pub mod Spelled

@@ -25,7 +25,9 @@ use Rattle.wf_words.specs.Names.{unit_name}
 use Rattle.wf_print.specs.ChartText.{chart_text}
 use Rattle.wf_print.specs.Nested.{depth}
 use Rattle.wf_text.specs.Text as text
+use Rattle.wf_text.specs.Declarations.{declarations}
 use Rattle.wf_text.specs.States as states
+use Rattle.wf_text.specs.Transitions.{transitions}
 use Rattle.wf_grammar.specs.Lexemes.{Lexeme, lexeme_of, lexemes}
 use Rattle.wf_grammar.specs.Phrases.{Is}
 use Rattle.wf_grammar.specs.Laws.{first_piece}
@@ -38,6 +40,7 @@ use Rattle.wf_canon.proofs.Known.{is_named_of}
 use Rattle.wf_canon.proofs.ChartFits.{chart_fits, chart_is_cut}
 use Rattle.wf_readback.specs.Declares.{declared_from, state_of, names_before_states, all_names}
 use Rattle.wf_readback.specs.Order.{states_from, IsInOrder}
+use Rattle.wf_readback.specs.Held.{is_held}
 use Rattle.wf_readback.specs.Laws.{declaration_lines, ChartIsReadBack, ShortTextIsReadBack}
 use Rattle.wf_readback.proofs.New.{found_before}
 use Rattle.wf_readback.proofs.Steps.{Made, made_of, At, Answers, one_token, name_here, expect_step, piece_at, left_at}
@@ -51,7 +54,7 @@ use Rattle.wf_readback.proofs.Fit.{all_fit}
 use Rattle.wf_readback.proofs.Ordered.{states_are_in_order}
 use Rattle.wf_readback.proofs.Short.{short_of}
 
-chart_is : Is pieces.Chart (word_lexeme (codes "chart"))
+pub chart_is : Is pieces.Chart (word_lexeme (codes "chart"))
 unfolding piece_of word_piece
 chart_is = refl
 
@@ -103,13 +106,13 @@ depth_root chart = refl
 -- ---- all parts
 
 module _ (chart : Chart) where
-  abbrev state_part : List Span
+  abbrev pub state_part : List Span
   state_part = state_spans chart MAX_DEPTH 0 0
 
-  abbrev transition_part : List Span
+  abbrev pub transition_part : List Span
   transition_part = flat_map (transition_line chart) chart.transitions
 
-  parts_are : lexemes_of (chart_spans chart)
+  pub parts_are : lexemes_of (chart_spans chart)
       ≡ word_lexeme (codes "chart") ∷ word_lexeme chart.name ∷ sign_lexeme (codes ";") ∷ (lexemes_of (declaration_lines chart) ++ (lexemes_of state_part ++ lexemes_of transition_part))
   unfolding chart_spans
   parts_are =
@@ -134,14 +137,24 @@ module _ (chart : Chart) where
       found_before (after_vars chart) (from_acts chart) (unit_name chart u) (declared_as_a.Unit u) (units_still chart (is_named_of chart accepted) (orders chart accepted) u h)
 
   -- all that the chart has, over what the input had
-  abbrev in_the_end : Input → Made
+  abbrev pub in_the_end : Input → Made
   in_the_end i = record (with_acts chart i) { states = chart.states; names = all_names chart }
 
-  record Parsed (i : Input) : Type 0 where
-    behind : Input
-    is : text.contents i ≡ Ok ((chart.name, chart.transitions), behind)
-    before : Input
-    made : made_of behind ≡ in_the_end before
+  -- the inputs before the declarations, behind them, behind the root and at the end, and what the rules answer there
+  pub record Parsed (i : Input) : Type 0 where
+    pub before : Input
+    pub declared : Input
+    pub drawn : Input
+    pub behind : Input
+    pub begins : lexemes before ≡ lexemes_of (declaration_lines chart) ++ (lexemes_of state_part ++ lexemes_of transition_part)
+    pub fresh : made_of before ≡ start before
+    pub no_state : before.states ≡ []
+    pub declarations_is : declarations before ≡ Ok (tt, declared)
+    pub root_is : states.root declared ≡ Ok (tt, drawn)
+    pub transitions_is : transitions drawn ≡ Ok (chart.transitions, behind)
+    pub none_left : lexemes behind ≡ []
+    pub made : made_of behind ≡ in_the_end before
+    pub is : text.contents i ≡ Ok ((chart.name, chart.transitions), behind)
 
   contents_step : IsAccepted chart → is_short chart ≡ true → IsInOrder chart → (i : Input) (m : Made) → At i (lexemes_of (chart_spans chart)) m
       → ((j : Input) → made_of j ≡ m → made_of j ≡ start j) → m.states ≡ [] → Parsed i
@@ -172,16 +185,25 @@ module _ (chart : Chart) where
       ap (λ (xs : List State). record base { states = xs; names = names_before_states chart ++ declared_from (λ y. y.name) state_of 0 xs }) all in
       let g = transitions_step chart named (in_the_end c.behind) (names_are_declared chart accepted) chart.transitions e.behind (all_fit chart accepted short) (remade e.behind end _ (in_the_end c.behind) all_made e.at) in
       let last = left_at g.behind [] (in_the_end c.behind) g.at in
-      let root_is = piece_at d.behind rest base d.at ∙ next_root in
+      let root_ahead = piece_at d.behind rest base d.at ∙ next_root in
       record {
-        behind = g.behind;
-        is = rw a.is (rw b.is (rw c.is (rw d.is (rw root_is (rw e.is (rw g.is (rw last refl)))))));
         before = c.behind;
+        declared = d.behind;
+        drawn = e.behind;
+        behind = g.behind;
+        begins = c.at.left;
+        fresh = fresh c.behind c.at.made;
+        no_state = ap (λ (k : Made). k.states) c.at.made ∙ empty;
+        declarations_is = d.is;
+        root_is = rw root_ahead (rw e.is refl);
+        transitions_is = g.is;
+        none_left = g.at.left;
         made = g.at.made;
+        is = rw a.is (rw b.is (rw c.is (rw d.is (rw root_ahead (rw e.is (rw g.is (rw last refl)))))));
       }
 
   -- the chart of all that was read
-  chart_is_whole : IsAccepted chart → (i j : Input) → made_of j ≡ in_the_end i → chart_with chart.name chart.transitions j ≡ chart
+  pub chart_is_whole : IsAccepted chart → (i j : Input) → made_of j ≡ in_the_end i → chart_with chart.name chart.transitions j ≡ chart
   unfolding chart_with
   chart_is_whole accepted i j made =
       ap (λ (m : Made). let c : Chart = record { name = chart.name; units = m.units; events = m.events; vars = m.vars; acts = m.acts; states = m.states; transitions = chart.transitions } in c) made
@@ -200,15 +222,19 @@ start_left : (text : List ℕ) (tokens : List Token) → lexemes (start_of text 
 unfolding start_of
 start_left text tokens = refl
 
+-- where the tokens of a text are those of the chart's spans, the rules read the chart
+pub parsed : (chart : Chart) → IsAccepted chart → is_held chart ≡ true → (text : List ℕ) (tokens : List Token) → map (lexeme_of text) tokens ≡ lexemes_of (chart_spans chart)
+    → Parsed chart (start_of text tokens)
+parsed chart accepted held text tokens same =
+    let begins = start_of text tokens in
+    contents_step chart accepted (short_of chart accepted held) (states_are_in_order chart accepted) begins (made_of begins) (record { left = start_left text tokens ∙ same; made = refl })
+    (fresh_start text tokens) (no_states_yet text tokens)
+
 pub chart_is_read_back : ChartIsReadBack
 unfolding text.chart_of
 chart_is_read_back chart accepted held few =
-    let short = short_of chart accepted held in
-    let order = states_are_in_order chart accepted in
-    let cut = chart_is_cut chart accepted short few in
-    let begins = start_of (chart_text chart) cut.0 in
-    let p = contents_step chart accepted short order begins (made_of begins) (record { left = start_left (chart_text chart) cut.0 ∙ cut.2; made = refl })
-    (fresh_start (chart_text chart) cut.0) (no_states_yet (chart_text chart) cut.0) in
+    let cut = chart_is_cut chart accepted (short_of chart accepted held) few in
+    let p = parsed chart accepted held (chart_text chart) cut.0 cut.2 in
     rw cut.1 (rw p.is (ap Ok (chart_is_whole chart accepted p.before p.behind p.made)))
 
 -- ---- short texts

@@ -1,9 +1,10 @@
 -- The canonical text of a chart is read back.
-use Rattle.std.specs.Prelude.{◌≡◌, ◌≤◌, ◌++◌, List, [], ◌∷◌, length, drop, flat_map, None, Some, Ok, IsTrue}
+use Rattle.std.specs.Prelude.{◌≡◌, ◌≤◌, ◌++◌, ℕ, List, [], ◌∷◌, length, drop, flat_map, None, Some, Ok, IsTrue}
 use lib.Chars.{codes}
 use Rattle.wf_model.specs.declared.limits.TheConstants.{MAX_TOKENS}
 use Rattle.wf_model.specs.declared.chart.Chart.{Chart}
 use Rattle.wf_model.specs.Accepted.{IsAccepted}
+use Rattle.wf_lex.specs.declared.token.Token.{Token}
 use Rattle.wf_cursor.specs.Input.{Input}
 use Rattle.wf_cursor.specs.declared.piece.Piece.TheVariants as pieces
 use Rattle.wf_print.specs.ChartText.{chart_text}
@@ -12,10 +13,12 @@ use Rattle.wf_text.specs.Declarations.{declarations}
 use Rattle.wf_grammar.specs.Lexemes.{Lexeme, lexemes}
 use Rattle.wf_grammar.specs.Laws.{first_piece}
 use Rattle.wf_text.specs.Transitions.{transitions}
+use Rattle.wf_canon.specs.Cuts.{IsCut}
 use Rattle.wf_canon.specs.Spans.{Span, lexemes_of}
 use Rattle.wf_canon.specs.Charts.{unit_line, event_line, var_line, activity_line, transition_line, chart_spans, is_short}
 use Rattle.wf_readback.specs.Order.{IsInOrder}
 use Rattle.wf_readback.specs.Held.{is_held}
+use Rattle.wf_readback.specs.Texts.{IsTextOf}
 use Rattle.wf_readback.specs.Declares.{Declares, fault_alone, names_before_states, all_names}
 
 -- Where the tokens of an accepted chart's transitions are left and its names are declared, the reader reads these transitions to the
@@ -51,6 +54,21 @@ DeclarationsAreRead =
 -- the states of an accepted chart are numbered as they stand in its canonical text
 abbrev pub StatesAreInOrder : Type 0
 StatesAreInOrder = (chart : Chart) → IsAccepted chart → IsInOrder chart
+
+-- a text that means a chart is a text of it by the grammar
+abbrev pub MeantIsTextOf : Type 0
+MeantIsTextOf = (text : List ℕ) (chart : Chart) → Means text chart → IsTextOf text chart
+
+-- and a text of a chart means it, where it is cut into at most MAX_TOKENS tokens
+abbrev pub TextOfFewIsMeant : Type 0
+TextOfFewIsMeant =
+    (text : List ℕ) (tokens : List Token) (chart : Chart) → IsCut text tokens → length tokens ≤ MAX_TOKENS → IsTextOf text chart →
+    Means text chart
+
+-- The canonical text of an accepted chart is a text of that chart by the grammar, however many tokens it has, where its literals
+-- are such as a program holds.
+abbrev pub ChartIsSpelled : Type 0
+ChartIsSpelled = (chart : Chart) → IsAccepted chart → IsTrue (is_held chart) → IsTextOf (chart_text chart) chart
 
 -- The canonical text of an accepted chart means that chart, where its literals are such as a program holds, and where it has at
 -- most MAX_TOKENS tokens: the text of a large chart may have more.

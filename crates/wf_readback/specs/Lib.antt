@@ -1,4 +1,5 @@
 pub mod Declares
 pub mod Order
 pub mod Held
+pub mod Texts
 pub mod Laws

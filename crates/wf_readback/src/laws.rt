@@ -1,10 +1,13 @@
 //! Laws of the reader on canonical texts.
 ghost use Rattle.wf_readback.specs.Laws.{
   ChartIsReadBack,
+  ChartIsSpelled,
   DeclarationsAreRead,
+  MeantIsTextOf,
   NamesAreDeclared,
   ShortTextIsReadBack,
   StatesAreInOrder,
+  TextOfFewIsMeant,
   TransitionsAreRead,
 };
 
@@ -28,6 +31,22 @@ pub fn declarations_are_read()
 /// The states of an accepted chart are numbered as they stand in its canonical text.
 pub fn states_are_in_order()
     ensures { StatesAreInOrder }
+{}
+
+/// A text that means a chart is a text of it by the grammar.
+pub fn meant_is_text_of()
+    ensures { MeantIsTextOf }
+{}
+
+/// A text of a chart by the grammar means it, if the text hasn't too many tokens.
+pub fn text_of_few_is_meant()
+    ensures { TextOfFewIsMeant }
+{}
+
+/// The canonical text of an accepted chart is a text of that chart by the grammar, however many tokens it has, where its literals are
+/// such as a program holds.
+pub fn chart_is_spelled()
+    ensures { ChartIsSpelled }
 {}
 
 /// The canonical text of an accepted chart means that chart, where its literals are such as a program holds, and if it hasn't too

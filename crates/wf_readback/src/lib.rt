@@ -1,9 +1,15 @@
-//! The canonical text of a chart is read back as that chart. Each public function is a law and has nothing to do.
+//! The canonical text of a chart is read back as that chart. Each public function is a law: it has nothing to do, or reads a chart to
+//! show that its literals are such as can be read.
 #![tactic(auto)]
 
+mod checked;
+mod held;
 mod laws;
 
+pub use checked::{checked_is_read_back, checked_is_spelled};
+pub use held::chart_is_held;
 pub use laws::{
-    chart_is_read_back, declarations_are_read, names_are_declared, short_text_is_read_back,
-    states_are_in_order, transitions_are_read,
+    chart_is_read_back, chart_is_spelled, declarations_are_read, meant_is_text_of,
+    names_are_declared, short_text_is_read_back, states_are_in_order, text_of_few_is_meant,
+    transitions_are_read,
 };

@@ -1,0 +1,5 @@
+use Rattle.wf_readback.proofs.Spelled.{chart_is_spelled}
+use Rattle.wf_readback.proofs.laws.chart_is_spelled.Goals as goal
+
+pub returns : goal.returns
+returns c = chart_is_spelled

@@ -1,0 +1,28 @@
+//! The laws of the canonical text for each accepted chart that a program holds.
+ghost use Rattle.std.specs.Prelude.{◌≤◌, length};
+ghost use Rattle.wf_model.specs.declared.limits.TheConstants.{MAX_TOKENS};
+ghost use Rattle.wf_print.specs.ChartText.{chart_text};
+ghost use Rattle.wf_text.specs.Text.{Means};
+ghost use Rattle.wf_canon.specs.Spans.{lexemes_of};
+ghost use Rattle.wf_canon.specs.Charts.{chart_spans};
+ghost use Rattle.wf_readback.specs.Texts.{IsTextOf};
+
+use crate::held::chart_is_held;
+use wf_model::Checked;
+
+/// The canonical text of the chart is a text of this chart by the grammar, however many tokens it has. Linear in the chart, and
+/// takes no memory.
+pub fn checked_is_spelled(checked: &Checked)
+    ensures { IsTextOf (chart_text checked.now) checked.now }
+{
+    chart_is_held(checked.chart());
+}
+
+/// The canonical text of the chart means this chart, if it has at most as many tokens, or as many bytes, as a text may have tokens.
+/// Linear in the chart, and takes no memory.
+pub fn checked_is_read_back(checked: &Checked)
+    ensures few_tokens { length (lexemes_of (chart_spans checked.now)) ≤ MAX_TOKENS → Means (chart_text checked.now) checked.now }
+    ensures few_bytes { length (chart_text checked.now) ≤ MAX_TOKENS → Means (chart_text checked.now) checked.now }
+{
+    chart_is_held(checked.chart());
+}

@@ -1,12 +1,16 @@
 -- How the counts of open items follow starts and completions.
-use Rattle.std.proofs.Common.{◌≡◌, ◌≢◌, ℕ, zero, suc, ◌+◌, ◌-◌, ◌<◌, ◌≤◌, ◌==◌, ◌&&◌, not, cond, Bool, true, false, List, [], ◌∷◌, ◌++◌, length, replicate, take, get_or, set, Some, None, refl, sym, ◌∙◌, ap, ap₂, subst, arith, eq-eqb, eqb-true, true≢false, length-append, length-set, length-take, get_or-set_other}
-use Rattle.std.specs.List.{slice_get}
+use Rattle.std.proofs.Common.{◌≡◌, ◌≢◌, ℕ, zero, suc, ◌+◌, ◌-◌, ◌<◌, ◌≤◌, ◌==◌, ◌&&◌, not, cond, Bool, true, false, List, [], ◌∷◌, ◌++◌, length, replicate, take, get_or, set, min, leb, inl, inr, Some, None, refl, sym, ◌∙◌, ap, ap₂, subst, arith, eq-eqb, eqb-true, true≢false, length-append, length-set, length-take, get_or-set_other}
+use Rattle.std.specs.List.{slice_get, All}
+use Rattle.std.proofs.lemmas.List.Elements.{All-nil, All-cons, All-head, All-tail, All-weaker}
+use Rattle.std.proofs.lemmas.Bool.{leb-true}
+use Rattle.wf_semantics.proofs.Bools.{or_cases}
+use Rattle.wf_model.specs.declared.limits.TheConstants.{MAX_ACTS}
 use Rattle.std.proofs.lemmas.List.{take_more, length-replicate}
 use Rattle.std.proofs.lemmas.Grind.{get_or-set_at}
 use Rattle.wf_model.specs.declared.ids.ActId.{ActId}
 use Rattle.wf_model.specs.declared.update.StartAt.{StartAt}
 use Rattle.wf_semantics.specs.Items.{Item, one, open_count, close}
-use Rattle.wf_activities.specs.UnitItems.{is_open, is_listed, listed, at_step, items_from, starts_count, AreKept}
+use Rattle.wf_activities.specs.UnitItems.{is_open, is_listed, listed, at_step, items_from, starts_count, room_of, AreKept}
 use Rattle.wf_activities.proofs.Joined.{get_item, close_items, items_append}
 
 pub one_few : (b : Bool) → one b ≤ 1
@@ -70,20 +74,63 @@ counted_more counts fs before i d m lt within e made a = go ((get_or fs i d).0.0
         let own : one ((get_or fs i d).0.0 == a) ≡ 0 = ap one q in
         omega (arith, get_or-set_other counts (get_or fs i d).0.0 a (m + 1) 0 other, own, made a, starts_more a fs i d lt)
 
--- what is started is listed
-pub started_listed : (a step : ℕ) (acts : List ActId) (ls : List StartAt) → 0 < starts_count a (at_step step (listed acts ls)) → is_listed acts a ≡ true
-started_listed a step acts [] h = absurd (omega arith)
-started_listed a step acts (l ∷ ls) h = go (is_listed acts l.act.0) refl h (λ k. started_listed a step acts ls k)
+-- what is started has a place below n, where all these starts do
+pub started_below : (a step n : ℕ) (ls : List StartAt) → All (λ s. s.act.0 < n) ls → 0 < starts_count a (at_step step ls) → a < n
+started_below a step n [] all h = absurd (omega arith)
+started_below a step n (l ∷ ls) all h = go (l.act.0 == a) refl h (λ k. started_below a step n ls (All-tail (λ s. s.act.0 < n) l ls all) k)
   where
-    own : (p : Bool) → (l.act.0 == a) ≡ p → is_listed acts l.act.0 ≡ true → 0 < one (l.act.0 == a) + starts_count a (at_step step (listed acts ls))
-        → (0 < starts_count a (at_step step (listed acts ls)) → is_listed acts a ≡ true) → is_listed acts a ≡ true
-    own true q e k ih = ap (is_listed acts) (sym (eqb-true l.act.0 a q)) ∙ e
-    own false q e k ih = ih (omega (arith, ap one q))
+    go : (p : Bool) → (l.act.0 == a) ≡ p → 0 < one (l.act.0 == a) + starts_count a (at_step step ls) → (0 < starts_count a (at_step step ls) → a < n) → a < n
+    go true q k ih = let here : l.act.0 < n = All-head (λ s. s.act.0 < n) l ls all in omega (arith, eqb-true l.act.0 a q)
+    go false q k ih = ih (omega (arith, ap one q))
 
-    go : (p : Bool) → is_listed acts l.act.0 ≡ p → 0 < starts_count a (at_step step (cond p (l ∷ listed acts ls) (listed acts ls)))
-        → (0 < starts_count a (at_step step (listed acts ls)) → is_listed acts a ≡ true) → is_listed acts a ≡ true
-    go true e k ih = own (l.act.0 == a) refl e k ih
-    go false e k ih = ih k
+-- a start that is listed is one more than the listed ones before it
+pub listed_more : (acts : List ActId) (ls : List StartAt) (i : ℕ) (d : StartAt) → i < length ls → is_listed acts (get_or ls i d).act.0 ≡ true → length (listed acts (take i ls)) < length (listed acts ls)
+listed_more acts [] i d lt h = absurd (omega arith)
+listed_more acts (l ∷ ls) zero d lt h = rw h (omega arith)
+listed_more acts (l ∷ ls) (suc i) d lt h = go (is_listed acts l.act.0) (listed_more acts ls i d (omega arith) h)
+  where
+    go : (p : Bool) → length (listed acts (take i ls)) < length (listed acts ls) → length (cond p (l ∷ listed acts (take i ls)) (listed acts (take i ls))) < length (cond p (l ∷ listed acts ls) (listed acts ls))
+    go true r = omega arith
+    go false r = r
+
+-- a start that is listed has what all of them have
+pub listed_has : (P : StartAt → Type 0) (acts : List ActId) (ls : List StartAt) (i : ℕ) (d : StartAt) → i < length ls → is_listed acts (get_or ls i d).act.0 ≡ true → All P (listed acts ls) → P (get_or ls i d)
+listed_has P acts [] i d lt h all = absurd (omega arith)
+listed_has P acts (l ∷ ls) zero d lt h all = go (is_listed acts l.act.0) h all
+  where
+    go : (p : Bool) → p ≡ true → All P (cond p (l ∷ listed acts ls) (listed acts ls)) → P l
+    go true e a = All-head P l (listed acts ls) a
+    go false e a = absurd (true≢false (sym e))
+listed_has P acts (l ∷ ls) (suc i) d lt h all = listed_has P acts ls i d (omega arith) h (go (is_listed acts l.act.0) all)
+  where
+    go : (p : Bool) → All P (cond p (l ∷ listed acts ls) (listed acts ls)) → All P (listed acts ls)
+    go true a = All-tail P l (listed acts ls) a
+    go false a = a
+
+small_act : (n : ℕ) (acts : List ActId) (a : ℕ) → All (λ x. x.0 < n) acts → is_listed acts a ≡ true → a < n
+small_act n [] a all h = absurd (true≢false (sym h))
+small_act n (x ∷ xs) a all h = elim (or_cases (x.0 == a) (is_listed xs a) h) [
+  | inl e ↦ let here : x.0 < n = All-head (λ (y : ActId). y.0 < n) x xs all in omega (arith, eqb-true x.0 a e)
+  | inr r ↦ small_act n xs a (All-tail (λ (y : ActId). y.0 < n) x xs all) r
+]
+
+small_listed : (n : ℕ) (acts : List ActId) (ls : List StartAt) → All (λ x. x.0 < n) acts → All (λ s. s.act.0 < n) (listed acts ls)
+small_listed n acts [] all = All-nil (λ (s : StartAt). s.act.0 < n)
+small_listed n acts (l ∷ ls) all = go (is_listed acts l.act.0) refl (small_listed n acts ls all)
+  where
+    go : (p : Bool) → is_listed acts l.act.0 ≡ p → All (λ s. s.act.0 < n) (listed acts ls) → All (λ s. s.act.0 < n) (cond p (l ∷ listed acts ls) (listed acts ls))
+    go true e r = All-cons (λ (s : StartAt). s.act.0 < n) l (listed acts ls) (small_act n acts l.act.0 all e) r
+    go false e r = r
+
+-- where there is no room no start is listed, and else all listed activities have a place
+pub all_below : (acts : List ActId) (ls : List StartAt) (reach a b : ℕ) → All (λ x. x.0 < MAX_ACTS) acts → length (listed acts ls) ≤ room_of reach a b → All (λ s. s.act.0 < reach) (listed acts ls)
+all_below acts ls reach a b small le = go (leb MAX_ACTS reach) refl le
+  where
+    go : (p : Bool) → leb MAX_ACTS reach ≡ p → length (listed acts ls) ≤ cond p (min a b) 0 → All (λ s. s.act.0 < reach) (listed acts ls)
+    go true e h =
+        let wide : MAX_ACTS ≤ reach = leb-true MAX_ACTS reach e in
+        All-weaker (λ (s : StartAt). s.act.0 < MAX_ACTS) (λ (s : StartAt). s.act.0 < reach) (λ s lt. omega (arith, lt, wide)) (listed acts ls) (small_listed MAX_ACTS acts ls small)
+    go false e h = λ k d lt. absurd (omega arith)
 
 open_at : (items : List Item) (k : ℕ) (x : Item) → slice_get items k ≡ Some x → is_open (slice_get items k) ≡ true → x.closed ≡ false
 open_at items k x e h = go x.closed refl

@@ -88,7 +88,7 @@ and_assoc : (p q r : Bool) → (p && (q && r)) ≡ ((p && q) && r)
 and_assoc true q r = refl
 and_assoc false q r = refl
 
-values_wanted : (chart : Chart) (xs : List VarId) (ws : List (VarId × Sort)) (os : List Output) → HaveSorts chart xs ws → are_values chart xs os ≡ are_wanted ws os
+pub values_wanted : (chart : Chart) (xs : List VarId) (ws : List (VarId × Sort)) (os : List Output) → HaveSorts chart xs ws → are_values chart xs os ≡ are_wanted ws os
 values_wanted chart [] [] [] h = refl
 values_wanted chart [] [] (o ∷ os) h = refl
 values_wanted chart [] (w ∷ ws) os h = absurd h
@@ -108,7 +108,7 @@ unfolding may_be_admitted may_complete
 completes_by_admission chart c pending u n a outputs act wanted at_unit free known sorts =
     rw (at_unit, free, or_no, known, values_wanted chart act.outputs wanted outputs sorts) refl
 
-same_starts : (p q : StartAt → Bool) → ((s : StartAt) → p s ≡ q s) → (starts : List StartAt) → filter p starts ≡ filter q starts
+pub same_starts : (p q : StartAt → Bool) → ((s : StartAt) → p s ≡ q s) → (starts : List StartAt) → filter p starts ≡ filter q starts
 same_starts p q h [] = refl
 same_starts p q h (s ∷ starts) = ap₂ (λ (b : Bool) (l : List StartAt). cond b (s ∷ l) l) (h s) (same_starts p q h starts)
 

@@ -3,3 +3,14 @@ pub mod Counting
 pub mod Wanted
 pub mod Completed
 pub mod LawsHold
+pub mod Admitting
+pub mod ByItems
+pub mod Rows
+pub mod ChartTables
+pub mod Done
+pub mod Closing
+pub mod Turns
+pub mod OpenCounts
+pub mod Numbering
+pub mod Adding
+pub mod Stepping

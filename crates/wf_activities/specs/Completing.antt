@@ -29,3 +29,8 @@ may_complete items n a outputs wanted =
     else if is_closed (item_at items n) then Err AlreadyDone
     else if not (are_wanted wanted outputs) then Err WrongOutput
     else Ok tt
+
+-- an item that is pending counts as closed
+abbrev pub unless_pending : Result (Unit {0}) OuterFault → Bool → Result (Unit {0}) OuterFault
+unless_pending (Err NoItem) pending = Err NoItem
+unless_pending answer pending = if pending then Err AlreadyDone else answer

@@ -1,9 +1,10 @@
 -- The items of one unit, and how they are kept.
-use Rattle.std.specs.Prelude.{◌≡◌, ℕ, ◌+◌, ◌==◌, not, Bool, false, List, [], ◌∷◌, Option, Some, None, length, map, filter, slice_index}
+use Rattle.std.specs.Prelude.{◌≡◌, ℕ, ◌+◌, ◌==◌, not, nat_le, min, Bool, false, List, [], ◌∷◌, Option, Some, None, length, map, filter, slice_index, if◌then◌else◌}
 use Rattle.std.specs.List.{list_any, zip}
 use Rattle.wf_model.specs.declared.ids.ActId.{ActId}
 use Rattle.wf_model.specs.declared.ids.UnitId.{UnitId}
 use Rattle.wf_model.specs.declared.update.StartAt.{StartAt}
+use Rattle.wf_model.specs.declared.limits.TheConstants.{MAX_ACTS}
 use Rattle.wf_semantics.specs.Items.{Item, one, open_count}
 
 pub record UnitItems : Type 0 where
@@ -12,6 +13,8 @@ pub record UnitItems : Type 0 where
   pub items : List Item
   -- the step of each item's start
   pub steps : List ℕ
+  -- how many items more take no memory
+  pub room : ℕ
 
 -- the activity and the step of each item
 abbrev pub started_of : UnitItems → List (ActId × ℕ)
@@ -35,6 +38,10 @@ abbrev pub at_step : ℕ → List StartAt → List (ActId × ℕ)
 at_step step starts = map (λ s. (s.act, step)) starts
 
 -- HOW ITEMS ARE KEPT
+
+-- how many items more take no memory, where the counts reach so far and the two lists have so much room behind their ends
+abbrev pub room_of : ℕ → ℕ → ℕ → ℕ
+room_of reach started closed = if nat_le MAX_ACTS reach then min started closed else 0
 
 -- items, from what was started and which of it is closed
 abbrev pub items_from : List (ActId × ℕ) → List Bool → List Item

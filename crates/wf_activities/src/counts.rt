@@ -1,14 +1,18 @@
 //! How many items of each activity are open, by its number.
-ghost use Rattle.std.specs.Prelude.{◌≡◌, ℕ, ◌+◌, ◌<◌, ◌≤◌, ◌^◌, true, length, slice_index, OnOk};
-ghost use Rattle.wf_activities.specs.UnitItems.{is_listed, starts_count};
+ghost use Rattle.std.specs.Prelude.{◌≡◌, ℕ, ◌+◌, ◌<◌, ◌≤◌, ◌^◌, length, slice_index, All, IsOk, OnOk};
+ghost use Rattle.wf_model.specs.declared.limits.TheConstants.{MAX_ACTS};
+ghost use Rattle.wf_activities.specs.UnitItems.{listed, starts_count};
 
-use wf_model::{ActId, NoMemory};
+use crate::starts::is_listed;
+use wf_model::limits::MAX_ACTS;
+use wf_model::{ActId, NoMemory, StartAt};
 
-// Makes the table reach to an activity.
+// Makes the table reach to an activity. Takes no memory where it does.
 fn reach(counts: &mut Vec<u32>, act: ActId) -> Result<(), NoMemory>
     ensures same { (a : ℕ) → slice_index counts.new.items a ≡ slice_index counts.old.items a }
     ensures longer { length counts.old.items ≤ length counts.new.items }
     ensures wide { OnOk result (act.0 < length counts.new.items) }
+    ensures ready { act.0 < length counts.old.items → IsOk result }
 {
     let at = act.0 as usize;
     if counts.len() <= at {
@@ -17,16 +21,28 @@ fn reach(counts: &mut Vec<u32>, act: ActId) -> Result<(), NoMemory>
     Ok(())
 }
 
-/// Makes the table reach to these activities. What it counts stays, with memory and without. Grows with the activities, and
-/// with the greatest of their numbers where the table is shorter.
-pub fn widen(counts: &mut Vec<u32>, acts: &[ActId]) -> Result<(), NoMemory>
+/// Makes the table reach to the activities of the listed starts. What it counts stays, with memory and without. Takes no
+/// memory where it reaches. Grows with the starts times the listed activities, and with the greatest number of an activity
+/// where the table is shorter.
+pub fn widen(counts: &mut Vec<u32>, acts: &[ActId], starts: &[StartAt]) -> Result<(), NoMemory>
     ensures same { (a : ℕ) → slice_index counts.new.items a ≡ slice_index counts.old.items a }
-    ensures wide { OnOk result ((a : ℕ) → is_listed acts.now a ≡ true → a < length counts.new.items) }
+    ensures wide { OnOk result (All (λ s. s.act.0 < length counts.new.items) (listed acts.now starts.now)) }
+    ensures ready { All (λ s. s.act.0 < length counts.old.items) (listed acts.now starts.now) → IsOk result }
 {
-    for act in acts {
-        reach(counts, *act)?;
+    for start in starts {
+        if is_listed(acts, start.act) {
+            reach(counts, start.act)?;
+        }
     }
     Ok(())
+}
+
+/// Makes the table reach to all activities that a chart may have. What it counts stays, with memory and without.
+pub fn reach_all(counts: &mut Vec<u32>) -> Result<(), NoMemory>
+    ensures same { (a : ℕ) → slice_index counts.new.items a ≡ slice_index counts.old.items a }
+    ensures wide { OnOk result (MAX_ACTS ≤ length counts.new.items) }
+{
+    reach(counts, ActId(MAX_ACTS as u32 - 1))
 }
 
 /// Counts these starts. Grows with them. Takes no memory.

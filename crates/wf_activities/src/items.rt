@@ -1,6 +1,7 @@
 //! The items of one unit.
-ghost use Rattle.std.specs.Prelude.{◌≡◌, ◌+◌, ◌++◌, ◌<◌, ◌^◌, [], length, map, IsTrue, OnOk, OnErr};
+ghost use Rattle.std.specs.Prelude.{◌≡◌, ◌+◌, ◌++◌, ◌<◌, ◌≤◌, ◌^◌, ◌↔◌, [], length, map, All, IsTrue, IsOk, IfOk, OnOk, OnErr};
 ghost use Rattle.std.specs.Option.{option_map};
+ghost use Rattle.wf_model.specs.declared.limits.TheConstants.{MAX_ACTS};
 ghost use Rattle.wf_semantics.specs.Items.{new_item, item_at, open_count, close};
 ghost use Rattle.wf_activities.specs.UnitItems.{listed, is_open, started_of};
 ghost use Rattle.wf_activities.specs.Completing.{may_complete};
@@ -8,7 +9,7 @@ ghost use Rattle.wf_activities.specs.Completing.{may_complete};
 use crate::{counts, outputs, starts};
 use std::alloc::Global;
 use std::marker::Model;
-use wf_model::{ActId, Duplicate, NoMemory, OuterFault, Output, Sort, StartAt, UnitId, VarId};
+use wf_model::{ActId, NoMemory, OuterFault, Output, Sort, StartAt, UnitId, VarId};
 
 /// The items of one unit, in the order of their starts. The first has number 1.
 #[derive(Debug, Drop)]
@@ -20,12 +21,18 @@ pub struct Items {
 }
 
 impl Model for Items {
-    ghost use Rattle.std.specs.Prelude.{map};
-    ghost use Rattle.wf_activities.specs.UnitItems.{UnitItems, AreKept, items_from};
+    ghost use Rattle.std.specs.Prelude.{map, length, ◌-◌};
+    ghost use Rattle.std.specs.Vec.{vec_len, vec_capacity};
+    ghost use Rattle.wf_activities.specs.UnitItems.{UnitItems, AreKept, items_from, room_of};
 
     ghost Value = { UnitItems };
 
-    ghost view = { λ i. record { unit = i.unit; items = items_from i.started.items i.closed.items; steps = map (λ s. s.1) i.started.items } };
+    ghost view = { λ i. record {
+      unit = i.unit;
+      items = items_from i.started.items i.closed.items;
+      steps = map (λ s. s.1) i.started.items;
+      room = room_of (length i.counts.items) (vec_capacity i.started - vec_len i.started) (vec_capacity i.closed - vec_len i.closed);
+    } };
 
     ghost invariant = { λ i. AreKept i.started.items i.closed.items i.counts.items };
 }
@@ -45,8 +52,21 @@ impl Items {
         }
     }
 
+    /// Makes room: the next `grow` that adds at most so many items finds memory. The memory at least doubles where it grows, so
+    /// that many calls for one item more cost as little as one for all. After `NoMemory` the items are as before.
+    pub fn reserve(&mut self, more: u32) -> Result<(), NoMemory>
+        ensures unit { self.new.unit ≡ self.old.unit }
+        ensures items { self.new.items ≡ self.old.items }
+        ensures steps { self.new.steps ≡ self.old.steps }
+        ensures ok { OnOk result (more ≤ self.new.room) }
+    {
+        self.started.reserve(more as usize)?;
+        self.closed.reserve(more as usize)?;
+        counts::reach_all(&mut self.counts)
+    }
+
     /// Adds the starts of the listed activities in order, as items of this step. Grows with the starts times the listed
-    /// activities. After `NoMemory` the items are as before.
+    /// activities. It finds memory where there is room. After `NoMemory` the items are as before.
     pub fn grow(
         &mut self,
         chart_unit_acts: &[ActId],
@@ -57,10 +77,12 @@ impl Items {
         ensures unit { self.new.unit ≡ self.old.unit }
         ensures items { OnOk result (self.new.items ≡ self.old.items ++ map (λ s. new_item s.act) (listed chart_unit_acts.now starts.now)) }
         ensures steps { OnOk result (self.new.steps ≡ self.old.steps ++ map (λ s. step) (listed chart_unit_acts.now starts.now)) }
-        ensures err { OnErr result (self.new ≡ self.old) }
+        ensures err_items { OnErr result (self.new.items ≡ self.old.items) }
+        ensures err_steps { OnErr result (self.new.steps ≡ self.old.steps) }
+        ensures ready { All (λ a. a.0 < MAX_ACTS) chart_unit_acts.now → length (listed chart_unit_acts.now starts.now) ≤ self.old.room → IsOk result }
     {
         let before = self.started.len();
-        counts::widen(&mut self.counts, chart_unit_acts)?;
+        counts::widen(&mut self.counts, chart_unit_acts, starts)?;
         starts::append(
             &mut self.started,
             &mut self.closed,
@@ -106,6 +128,7 @@ impl Items {
         ensures unit { self.new.unit ≡ self.old.unit }
         ensures items { self.new.items ≡ close item self.old.items }
         ensures steps { self.new.steps ≡ self.old.steps }
+        ensures room { self.new.room ≡ self.old.room }
     {
         let at = item as usize - 1;
         let act = self.started[at].0.0 as usize;
@@ -130,6 +153,37 @@ impl Items {
         }
     }
 
+    /// How many items there are. In constant time. Takes no memory.
+    pub fn len(&self) -> usize
+        ensures { result ≡ length self.now.items }
+    {
+        self.started.len()
+    }
+
+    /// Whether there is no item. In constant time. Takes no memory.
+    pub fn is_empty(&self) -> bool
+        ensures { IsTrue result ↔ (length self.now.items ≡ 0) }
+    {
+        self.len() == 0
+    }
+
+    /// A copy of the items, with no more room than they need. Grows with the items.
+    pub fn copy(&self, alloc: Global) -> Result<Items, NoMemory>
+        ensures unit { IfOk result (λ copy. copy.unit ≡ self.now.unit) }
+        ensures items { IfOk result (λ copy. copy.items ≡ self.now.items) }
+        ensures steps { IfOk result (λ copy. copy.steps ≡ self.now.steps) }
+    {
+        let started = Vec::from_slice(alloc, self.started.as_slice())?;
+        let closed = Vec::from_slice(alloc, self.closed.as_slice())?;
+        let counts = Vec::from_slice(alloc, self.counts.as_slice())?;
+        Ok(Items {
+            unit: self.unit,
+            started,
+            closed,
+            counts,
+        })
+    }
+
     // The activity of an item, and whether it is closed.
     fn find(&self, item: u32) -> Option<(ActId, bool)>
         ensures { result ≡ option_map (λ i. (i.act, i.closed)) (item_at self.now.items item) }
@@ -143,19 +197,5 @@ impl Items {
         } else {
             None
         }
-    }
-}
-
-impl Duplicate for Items {
-    fn copy(&self, alloc: Global) -> Result<Items, NoMemory> {
-        let started = Vec::from_slice(alloc, self.started.as_slice())?;
-        let closed = Vec::from_slice(alloc, self.closed.as_slice())?;
-        let counts = Vec::from_slice(alloc, self.counts.as_slice())?;
-        Ok(Items {
-            unit: self.unit,
-            started,
-            closed,
-            counts,
-        })
     }
 }

@@ -1,14 +1,22 @@
 //! The items of one unit: the starts of its activities, numbered from 1, and which of them are closed.
 #![tactic(auto)]
 
+mod admission;
+mod all_items;
+mod completions;
 mod counts;
+mod growing;
 mod items;
 mod laws;
+mod numbers;
 mod outputs;
 mod starts;
+mod tables;
 #[cfg(test)]
 mod tests;
 
+pub use all_items::AllItems;
+pub use completions::done_in;
 pub use items::Items;
 pub use laws::{
     closed_stays_closed, closes_one, completes_by_admission, counts_open_items, grows_by_step,

@@ -1,10 +1,12 @@
 //! The starts of a step that are a unit's own.
-ghost use Rattle.std.specs.Prelude.{◌≡◌, ◌++◌, false, length, take, replicate, OnOk, OnErr};
+ghost use Rattle.std.specs.Prelude.{◌≡◌, ◌+◌, ◌≤◌, ◌++◌, false, length, take, replicate, IsOk, OnOk, OnErr};
+ghost use Rattle.std.specs.Vec.{vec_len, vec_capacity};
 ghost use Rattle.wf_activities.specs.UnitItems.{is_listed, listed, at_step};
 
 use wf_model::{ActId, NoMemory, StartAt};
 
-fn is_listed(acts: &[ActId], act: ActId) -> bool
+/// Whether an activity is among these. Grows with them.
+pub fn is_listed(acts: &[ActId], act: ActId) -> bool
     ensures { result ≡ is_listed acts.now act.0 }
 {
     acts.iter().any(|a| a.0 == act.0)
@@ -19,6 +21,8 @@ fn push_listed(
 ) -> Result<(), NoMemory>
     ensures ok { OnOk result (started.new.items ≡ started.old.items ++ at_step step (listed acts.now starts.now)) }
     ensures front { take (length started.old.items) started.new.items ≡ started.old.items }
+    ensures capacity { vec_capacity started.old ≤ vec_capacity started.new }
+    ensures ready { vec_len started.old + length (listed acts.now starts.now) ≤ vec_capacity started.old → IsOk result }
 {
     for start in starts {
         if is_listed(acts, start.act) {
@@ -29,7 +33,7 @@ fn push_listed(
 }
 
 /// Adds the starts of the listed activities, each with the step, and none of them closed. After `NoMemory` both lists are as
-/// before. Grows with the starts times the activities.
+/// before. Takes no memory where there is room. Grows with the starts times the activities.
 pub fn append(
     started: &mut Vec<(ActId, u32)>,
     closed: &mut Vec<bool>,
@@ -42,6 +46,7 @@ pub fn append(
     ensures closed { OnOk result (closed.new.items ≡ closed.old.items ++ replicate (length (at_step step (listed acts.now starts.now))) false) }
     ensures started_err { OnErr result (started.new.items ≡ started.old.items) }
     ensures closed_err { OnErr result (closed.new.items ≡ closed.old.items) }
+    ensures ready { vec_len started.old + length (listed acts.now starts.now) ≤ vec_capacity started.old → vec_len closed.old + length (listed acts.now starts.now) ≤ vec_capacity closed.old → IsOk result }
 {
     let before = started.len();
     if push_listed(started, acts, step, starts).is_err() {

@@ -1,7 +1,7 @@
 //! Each call once.
 use crate::Items;
 use std::test::Fail;
-use wf_model::{ActId, Duplicate, OuterFault, Output, Sort, StartAt, TransId, UnitId, Val, VarId};
+use wf_model::{ActId, OuterFault, Output, Sort, StartAt, TransId, UnitId, Val, VarId};
 
 fn start(act: u32) -> StartAt {
     StartAt {

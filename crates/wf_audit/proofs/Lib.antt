@@ -1,6 +1,11 @@
 pub mod Divided
+pub mod Split
 pub mod Few
 pub mod Noted
-pub mod Within
+pub mod Spelled
+pub mod Commas
 pub mod Read
+pub mod Counted
+pub mod Orders
+pub mod Variables
 pub mod Sights

@@ -1,8 +1,10 @@
 -- The words of the central run: what it replies to each line of a script.
-use Rattle.std.specs.Prelude.{ℕ, ◌+◌, ◌==◌, ◌++◌, List, [], ◌∷◌, length, map, filter, flat_map, Option, Some, None, Result, Ok, Err}
+use Rattle.std.specs.Prelude.{◌≡◌, ◌≤◌, ◌<◌, ℕ, ◌+◌, ◌==◌, ◌++◌, List, [], ◌∷◌, length, map, filter, flat_map, Result, Ok, Err}
 use Rattle.std.specs.List.{enumerate_from, range_with_len}
+use Rattle.wf_model.specs.declared.limits.TheConstants.{MAX_REPORT}
 use Rattle.wf_model.specs.declared.ids.StateId.{StateId}
 use Rattle.wf_model.specs.declared.ids.UnitId.{UnitId}
+use Rattle.wf_model.specs.declared.value.Val.{Val}
 use Rattle.wf_model.specs.declared.chart.Chart.{Chart}
 use Rattle.wf_model.specs.declared.outer.Output.{Output}
 use Rattle.wf_model.specs.declared.outer.Outer.{Outer}
@@ -14,6 +16,8 @@ use Rattle.wf_semantics.specs.Run.{CentralState, first_state, next_state, fired_
 use Rattle.wf_semantics.specs.Admission.{may_be_admitted}
 use Rattle.wf_audit.specs.declared.script.CentralLine.{CentralLine}
 use Rattle.wf_audit.specs.declared.script.CentralLine.TheVariants as lines
+use Rattle.wf_audit.specs.declared.central.RunFault.{RunFault}
+use Rattle.wf_audit.specs.declared.central.RunFault.TheVariants as faults
 use Rattle.wf_audit.specs.declared.reply.Reply.{Reply}
 use Rattle.wf_audit.specs.declared.reply.Reply.TheVariants as reply
 use Rattle.wf_audit.specs.Replies.{reply_text, numbered}
@@ -38,9 +42,13 @@ state_id s = record { 0 = s }
 abbrev pub states_in : Chart → CentralState → List StateId
 states_in chart c = map state_id (filter (λ s. is_in s c.configuration) (all_states chart))
 
+-- a variable with its value
+abbrev pub output : ℕ × Val → Output
+output x = record { var = record { 0 = x.0 }; val = x.1 }
+
 -- the variables with their values, in order
 abbrev pub vars_of : CentralState → List Output
-vars_of c = map (λ x. record { var = record { 0 = x.0 }; val = x.1 }) (enumerate_from 0 c.store)
+vars_of c = map output (enumerate_from 0 c.store)
 
 abbrev pub answer : Result (Unit {0}) OuterFault → Reply
 answer (Ok admitted) = reply.Ok
@@ -86,23 +94,30 @@ after_line chart s (lines.Outer unit outer) = after_outer chart s unit outer
 after_line chart s lines.Step = after_step chart s
 after_line chart s lines.Show = s
 
--- what line n adds to the text; a line that says nothing has no reply
-abbrev pub line_text : Chart → Standing → ℕ → Option CentralLine → List ℕ
-line_text chart s n None = []
-line_text chart s n (Some line) = numbered n (reply_text chart (reply_of chart s line))
+-- the line of the reply to the line with this number
+abbrev pub reply_line : Chart → Standing → ℕ → CentralLine → List ℕ
+reply_line chart s number line = numbered number (reply_text chart (reply_of chart s line))
 
-abbrev pub after_said : Chart → Standing → Option CentralLine → Standing
-after_said chart s None = s
-after_said chart s (Some line) = after_line chart s line
-
--- the replies from line n on
-abbrev pub replies_from : Chart → Standing → ℕ → List (Option CentralLine) → List ℕ
-replies_from chart s n [] = []
-replies_from chart s n (said ∷ more) = line_text chart s n said ++ replies_from chart (after_said chart s said) (n + 1) more
+-- the replies to these lines, each with its number
+abbrev pub replies_to : Chart → Standing → List (ℕ × CentralLine) → List ℕ
+replies_to chart s [] = []
+replies_to chart s (line ∷ lines) = reply_line chart s line.0 line.1 ++ replies_to chart (after_line chart s line.1) lines
 
 abbrev pub first_standing : Chart → Standing
 first_standing chart = record { central = first_state chart; pending = [] }
 
 -- the text of the central run
-unfoldable pub central_text : Chart → List (Option CentralLine) → List ℕ
-central_text chart script = replies_from chart (first_standing chart) 1 script
+unfoldable pub central_text : Chart → List (ℕ × CentralLine) → List ℕ
+central_text chart script = replies_to chart (first_standing chart) script
+
+-- the answer is this text, which is short enough; or it is too long, or memory ran out
+abbrev pub GivesText : Result (List ℕ) RunFault → List ℕ → Type 0
+GivesText (Ok text) wanted = (text ≡ wanted) × (length wanted ≤ MAX_REPORT)
+GivesText (Err faults.TooLong) wanted = MAX_REPORT < length wanted
+GivesText (Err faults.NoMemory) wanted = Unit {0}
+
+-- the line stands behind the text, which stays short enough; or it would be too long, or memory ran out
+abbrev pub Adds : Result (Unit {0}) RunFault → (before after line : List ℕ) → Type 0
+Adds (Ok done) before after line = (after ≡ before ++ line) × (length after ≤ MAX_REPORT)
+Adds (Err faults.TooLong) before after line = MAX_REPORT < length before + length line
+Adds (Err faults.NoMemory) before after line = Unit {0}

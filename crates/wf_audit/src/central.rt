@@ -1,20 +1,41 @@
 //! The central run of a script.
-ghost use Rattle.std.specs.Prelude.{◌≡◌, ◌≤◌, ◌<◌, ◌+◌, ◌++◌, ◌==◌, length, filter, IsTrue, IfOk, OnOk};
+ghost use Rattle.std.specs.Prelude.{◌≡◌, ◌≤◌, ◌<◌, ◌+◌, ◌++◌, ◌==◌, length, filter, IfOk, OnOk};
 ghost use Rattle.wf_model.specs.Accepted.{IsAccepted};
-ghost use Rattle.wf_central.specs.Plain.{is_plain};
 ghost use Rattle.wf_model.specs.declared.limits.TheConstants.{MAX_STEPS};
 ghost use Rattle.wf_central.specs.Kept.{central_of, IsOf};
 ghost use Rattle.wf_audit.specs.CentralText as spec;
-ghost use Rattle.wf_audit.specs.Standings.{standing_of};
+ghost use Rattle.wf_audit.specs.Standings.{standing_of, IsRun};
 
-use crate::reply::{Reply, append_reply};
+use crate::reply::{Reply, reply_line};
 use crate::script::CentralLine;
 use std::alloc::Global;
+use thiserror::Error;
 use wf_central::CentralState;
-use wf_model::{Bytes, Chart, Checked, Duplicate, Entry, List, NoMemory, Outer, StateId, UnitId};
+use wf_model::limits::{MAX_LINES, MAX_REPORT};
+use wf_model::{
+    Bytes, Chart, Checked, Duplicate, Entry, List, NoMemory, Outer, Output, StateId, UnitId, VarId,
+};
 
-/// Lines of a script that a plain run takes, blank ones among them.
-pub const MAX_PLAIN_LINES: usize = 2_000;
+/// Why a run has no text.
+#[derive(Clone, Copy, Debug, PartialEq, Eq, Error)]
+pub enum RunFault {
+    /// The text has more than `MAX_REPORT` bytes.
+    #[error("text too long")]
+    TooLong,
+    #[error("out of memory")]
+    NoMemory,
+}
+
+impl From<NoMemory> for RunFault {
+    ghost use Rattle.std.specs.Prelude.{◌≡◌};
+    ghost use Rattle.wf_audit.specs.declared.central.RunFault.TheVariants.{NoMemory};
+
+    ghost from_gives = { λ _ e. e ≡ NoMemory };
+
+    fn from(_e: NoMemory) -> RunFault {
+        RunFault::NoMemory
+    }
+}
 
 /// Where a run stands: its state, and the outers that were admitted for the next step.
 #[derive(Debug, Drop)]
@@ -72,7 +93,22 @@ fn states_in(
     Ok(states)
 }
 
-// The sight of a state of a plain chart, which has no variables.
+// The variables with their values, in order.
+fn vars_of(alloc: Global, chart: &Chart, central: &CentralState) -> Result<List<Output>, NoMemory>
+    requires accepted { IsAccepted chart.now }
+    requires of { IsOf chart.now central.now }
+    ensures { IfOk result (λ vars. vars ≡ spec.vars_of (central_of chart.now central.now)) }
+{
+    let mut vars = List::new(alloc);
+    for x in 0..chart.vars.len() {
+        let var = VarId(x as u32);
+        let val = central.var(var);
+        vars.push(Output { var, val })?;
+    }
+    Ok(vars)
+}
+
+// The sight of a state.
 fn sight(alloc: Global, chart: &Chart, central: &CentralState) -> Result<Reply, NoMemory>
     requires accepted { IsAccepted chart.now }
     requires of { IsOf chart.now central.now }
@@ -81,16 +117,15 @@ fn sight(alloc: Global, chart: &Chart, central: &CentralState) -> Result<Reply, 
     Ok(Reply::Central {
         taken: central.taken(),
         states: states_in(alloc, chart, central)?,
-        vars: List::new(alloc),
+        vars: vars_of(alloc, chart, central)?,
         raised: List::from_slice(alloc, central.raised())?,
     })
 }
 
 impl Run {
     fn first(alloc: Global, checked: &Checked) -> Result<Run, NoMemory>
-        requires { IsTrue (is_plain checked.now) }
         ensures standing { IfOk result (λ run. standing_of checked.now run ≡ spec.first_standing checked.now) }
-        ensures of { IfOk result (λ run. IsOf checked.now run.central) }
+        ensures sound { IfOk result (λ run. IsRun checked.now run) }
         ensures taken { IfOk result (λ run. run.central.taken ≡ 0) }
     {
         Ok(Run {
@@ -106,9 +141,10 @@ impl Run {
         unit: UnitId,
         outer: &Outer,
     ) -> Result<Reply, NoMemory>
-        requires { IsTrue (is_plain checked.now) }
+        requires { IsRun checked.now self.old }
         ensures reply { IfOk result (λ reply. reply ≡ spec.admitted checked.now (standing_of checked.now self.old) unit outer.now) }
         ensures standing { OnOk result (standing_of checked.now self.new ≡ spec.after_outer checked.now (standing_of checked.now self.old) unit outer.now) }
+        ensures sound { OnOk result (IsRun checked.now self.new) }
         ensures central { self.new.central ≡ self.old.central }
     {
         let admitted = self
@@ -125,12 +161,11 @@ impl Run {
     }
 
     fn step(&mut self, alloc: Global, checked: &Checked) -> Result<Reply, NoMemory>
-        requires plain { IsTrue (is_plain checked.now) }
-        requires of { IsOf checked.now self.old.central }
+        requires sound { IsRun checked.now self.old }
         requires few { self.old.central.taken < MAX_STEPS }
         ensures reply { IfOk result (λ reply. reply ≡ spec.stepped checked.now (standing_of checked.now self.old)) }
         ensures standing { OnOk result (standing_of checked.now self.new ≡ spec.after_step checked.now (standing_of checked.now self.old)) }
-        ensures of { IsOf checked.now self.new.central }
+        ensures sound { OnOk result (IsRun checked.now self.new) }
         ensures taken { OnOk result (self.new.central.taken ≡ self.old.central.taken + 1) }
     {
         let coming = in_unit_order(alloc, checked.chart(), self.pending.as_slice())?;
@@ -150,12 +185,11 @@ impl Run {
         checked: &Checked,
         line: &CentralLine,
     ) -> Result<Reply, NoMemory>
-        requires plain { IsTrue (is_plain checked.now) }
-        requires of { IsOf checked.now self.old.central }
+        requires sound { IsRun checked.now self.old }
         requires few { self.old.central.taken < MAX_STEPS }
         ensures reply { IfOk result (λ reply. reply ≡ spec.reply_of checked.now (standing_of checked.now self.old) line.now) }
         ensures standing { OnOk result (standing_of checked.now self.new ≡ spec.after_line checked.now (standing_of checked.now self.old) line.now) }
-        ensures of { IsOf checked.now self.new.central }
+        ensures sound { OnOk result (IsRun checked.now self.new) }
         ensures taken { OnOk result (self.new.central.taken ≤ self.old.central.taken + 1) }
     {
         match line {
@@ -165,51 +199,55 @@ impl Run {
         }
     }
 
-    // Appends the reply to what the line with this number says.
-    fn append(
+    // The line of the reply to the line with this number.
+    fn answer(
         &mut self,
         alloc: Global,
         checked: &Checked,
-        text: &mut Bytes,
         number: u32,
-        said: &Option<CentralLine>,
-    ) -> Result<(), NoMemory>
-        requires plain { IsTrue (is_plain checked.now) }
-        requires of { IsOf checked.now self.old.central }
+        line: &CentralLine,
+    ) -> Result<Bytes, NoMemory>
+        requires sound { IsRun checked.now self.old }
         requires few { self.old.central.taken < MAX_STEPS }
-        ensures text { OnOk result (text.new ≡ text.old ++ spec.line_text checked.now (standing_of checked.now self.old) number said.now) }
-        ensures standing { OnOk result (standing_of checked.now self.new ≡ spec.after_said checked.now (standing_of checked.now self.old) said.now) }
-        ensures of { IsOf checked.now self.new.central }
+        ensures text { IfOk result (λ text. text ≡ spec.reply_line checked.now (standing_of checked.now self.old) number line.now) }
+        ensures standing { OnOk result (standing_of checked.now self.new ≡ spec.after_line checked.now (standing_of checked.now self.old) line.now) }
+        ensures sound { OnOk result (IsRun checked.now self.new) }
         ensures taken { OnOk result (self.new.central.taken ≤ self.old.central.taken + 1) }
     {
-        match said {
-            Some(line) => {
-                let reply = self.reply(alloc, checked, line)?;
-                append_reply(alloc, text, checked.chart(), number, &reply)
-            }
-            None => Ok(()),
-        }
+        let reply = self.reply(alloc, checked, line)?;
+        reply_line(alloc, checked.chart(), number, &reply)
     }
 }
 
-/// The text of the central run of a plain chart: the reply to each line of the script that says something. Grows with
-/// the lines, each with the states times their depth and the transitions, and with the text.
+// Adds a line to a text, if the text stays short enough.
+fn add(text: &mut Bytes, line: &[u8]) -> Result<(), RunFault>
+    requires { length text.old ≤ MAX_REPORT }
+    ensures { spec.Adds result text.old text.new line.now }
+{
+    if line.len() > MAX_REPORT - text.len() {
+        return Err(RunFault::TooLong);
+    }
+    text.append(line)?;
+    Ok(())
+}
+
+/// The text of the central run of a chart: the line of a reply to each of these lines, with their numbers. `TooLong`
+/// where it has more than `MAX_REPORT` bytes, and no more than these are made before that is found. Grows with the
+/// lines, each with the states times their depth, the transitions and the work of those that fire, and with the text.
 #[tactic(auto, unfolding(crate::specs::CentralText::central_text))]
 pub fn run_central(
     alloc: Global,
     checked: &Checked,
-    script: &[Option<CentralLine>],
-) -> Result<Bytes, NoMemory>
-    requires plain { IsTrue (is_plain checked.now) }
-    requires few { length script.now ≤ MAX_PLAIN_LINES }
-    ensures { IfOk result (λ text. text ≡ spec.central_text checked.now script.now) }
+    script: &[(u32, CentralLine)],
+) -> Result<Bytes, RunFault>
+    requires { length script.now ≤ MAX_LINES }
+    ensures { spec.GivesText result (spec.central_text checked.now script.now) }
 {
     let mut run = Run::first(alloc, checked)?;
     let mut text = List::new(alloc);
-    let mut number = 0;
-    for said in script {
-        number += 1;
-        run.append(alloc, checked, &mut text, number, said)?;
+    for (number, line) in script {
+        let answer = run.answer(alloc, checked, *number, line)?;
+        add(&mut text, answer.as_slice())?;
     }
     Ok(text)
 }

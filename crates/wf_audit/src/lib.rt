@@ -4,12 +4,14 @@
 mod central;
 mod lines;
 mod names;
+mod outer;
 mod reply;
 mod script;
 #[cfg(test)]
 mod tests;
+mod values;
 
-pub use central::{MAX_PLAIN_LINES, run_central};
-pub use lines::{Division, divide};
-pub use reply::{Reply, append_reply};
+pub use central::{RunFault, run_central};
+pub use lines::{Division, divide, line_count};
+pub use reply::{Reply, reply_line};
 pub use script::{CentralLine, ScriptFault, read_central};

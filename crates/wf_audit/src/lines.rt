@@ -61,3 +61,16 @@ pub fn divide(input: &[u8]) -> Division<'_>
         script: rest,
     }
 }
+
+/// How many lines a script has, blank ones and comments among them. Linear in the script; takes no memory.
+pub fn line_count(script: &[u8]) -> usize
+    ensures { result ≡ length (spec.lines_of script.now) }
+{
+    let mut count = 0;
+    let mut rest = script;
+    while !rest.is_empty() {
+        rest = split_line(rest).1;
+        count += 1;
+    }
+    count
+}

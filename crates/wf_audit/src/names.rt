@@ -5,30 +5,39 @@ ghost use Rattle.std.specs.Option.{option_or};
 ghost use Rattle.std.specs.Str.{bytes_eq};
 ghost use Rattle.wf_model.specs.Accepted.{IsAccepted};
 ghost use Rattle.wf_audit.specs.Names as spec;
+ghost use Rattle.wf_audit.specs.Finders.{finder_of};
 
 use std::alloc::Global;
 use std::collections::HashMap;
-use wf_model::limits::{MAX_EVENTS, MAX_UNITS};
-use wf_model::{Chart, Event, Name, NoMemory};
+use wf_model::limits::{MAX_ACTS, MAX_EVENTS, MAX_UNITS, MAX_VARS};
+use wf_model::{Activity, Chart, Event, Name, NoMemory, Variable};
 
-/// The numbers of a chart's units and events, by their names.
+/// The numbers of a chart's units, events, activities and variables, by their names.
 #[derive(Drop)]
 pub struct Names<'a> {
     pub units: HashMap<&'a [u8], u32>,
     pub events: HashMap<&'a [u8], u32>,
+    pub acts: HashMap<&'a [u8], u32>,
+    pub vars: HashMap<&'a [u8], u32>,
 }
 
 impl<'a> Names<'a> {
     /// The names of this chart. Linear in their bytes on average.
-    #[tactic(auto, using(crate::proofs::Few::few_units, crate::proofs::Few::few_events))]
+    #[tactic(auto, using(crate::proofs::Few::few_units, crate::proofs::Few::few_events, crate::proofs::Few::few_acts, crate::proofs::Few::few_vars))]
     pub fn of(alloc: Global, chart: &'a Chart) -> Result<Names<'a>, NoMemory>
         requires { IsAccepted chart.now }
-        ensures units { IfOk result (λ names. spec.found_in names.units ≡ spec.unit_named chart.now) }
-        ensures events { IfOk result (λ names. spec.found_in names.events ≡ spec.event_named chart.now) }
+        ensures { IfOk result (λ names. finder_of names ≡ spec.names_of chart.now) }
     {
         let units = unit_numbers(alloc, chart.units.as_slice())?;
         let events = event_numbers(alloc, chart.events.as_slice())?;
-        Ok(Names { units, events })
+        let acts = act_numbers(alloc, chart.acts.as_slice())?;
+        let vars = var_numbers(alloc, chart.vars.as_slice())?;
+        Ok(Names {
+            units,
+            events,
+            acts,
+            vars,
+        })
     }
 
     /// The number of the unit of this name.
@@ -43,6 +52,20 @@ impl<'a> Names<'a> {
         ensures { result ≡ spec.found_in self.now.events name.now }
     {
         self.events.get(name).copied()
+    }
+
+    /// The number of the activity of this name.
+    pub fn act(&self, name: &[u8]) -> Option<u32>
+        ensures { result ≡ spec.found_in self.now.acts name.now }
+    {
+        self.acts.get(name).copied()
+    }
+
+    /// The number of the variable of this name.
+    pub fn var(&self, name: &[u8]) -> Option<u32>
+        ensures { result ≡ spec.found_in self.now.vars name.now }
+    {
+        self.vars.get(name).copied()
     }
 }
 
@@ -78,6 +101,28 @@ fn event_numbers<'a>(alloc: Global, events: &'a [Event]) -> Result<HashMap<&'a [
     let mut numbers = HashMap::new(alloc);
     for (at, event) in events.iter().enumerate() {
         note(&mut numbers, event.name.as_bytes(), at as u32)?;
+    }
+    Ok(numbers)
+}
+
+fn act_numbers<'a>(alloc: Global, acts: &'a [Activity]) -> Result<HashMap<&'a [u8], u32>, NoMemory>
+    requires { length acts.now ≤ MAX_ACTS }
+    ensures { IfOk result (λ numbers. spec.found_in numbers ≡ (λ name. position_from (λ act. bytes_eq name act.name) 0 acts.now)) }
+{
+    let mut numbers = HashMap::new(alloc);
+    for (at, act) in acts.iter().enumerate() {
+        note(&mut numbers, act.name.as_bytes(), at as u32)?;
+    }
+    Ok(numbers)
+}
+
+fn var_numbers<'a>(alloc: Global, vars: &'a [Variable]) -> Result<HashMap<&'a [u8], u32>, NoMemory>
+    requires { length vars.now ≤ MAX_VARS }
+    ensures { IfOk result (λ numbers. spec.found_in numbers ≡ (λ name. position_from (λ variable. bytes_eq name variable.name) 0 vars.now)) }
+{
+    let mut numbers = HashMap::new(alloc);
+    for (at, variable) in vars.iter().enumerate() {
+        note(&mut numbers, variable.name.as_bytes(), at as u32)?;
     }
     Ok(numbers)
 }

@@ -1,5 +1,5 @@
 //! Replies, and their text.
-ghost use Rattle.std.specs.Prelude.{◌≡◌, ◌++◌, OnOk, OnErr};
+ghost use Rattle.std.specs.Prelude.{◌≡◌, ◌++◌, IfOk, OnOk};
 ghost use Rattle.std.specs.Fmt.{signed_decimal};
 ghost use Rattle.wf_audit.specs.Replies as spec;
 
@@ -180,23 +180,16 @@ fn append_text(text: &mut Bytes, chart: &Chart, reply: &Reply) -> Result<(), NoM
     }
 }
 
-/// Appends the reply to the line with this number, as a line of its own. A number that the chart hasn't is written as
-/// an empty name. Linear in what is appended; where memory runs out, nothing is.
+/// The line of the reply to the script's line with this number. A number that the chart hasn't is written as an empty
+/// name. Linear in what is written.
 #[tactic(auto, unfolding(crate::specs::Replies::numbered))]
-pub fn append_reply(
-    alloc: Global,
-    text: &mut Bytes,
-    chart: &Chart,
-    line: u32,
-    reply: &Reply,
-) -> Result<(), NoMemory>
-    ensures ok { OnOk result (text.new ≡ text.old ++ spec.numbered line (spec.reply_text chart.now reply.now)) }
-    ensures err { OnErr result (text.new ≡ text.old) }
+pub fn reply_line(alloc: Global, chart: &Chart, line: u32, reply: &Reply) -> Result<Bytes, NoMemory>
+    ensures { IfOk result (λ text. text ≡ spec.numbered line (spec.reply_text chart.now reply.now)) }
 {
-    let mut written = List::new(alloc);
-    append_number(&mut written, line.into())?;
-    written.append(b": ")?;
-    append_text(&mut written, chart, reply)?;
-    written.push(b'\n')?;
-    text.append(written.as_slice())
+    let mut text = List::new(alloc);
+    append_number(&mut text, line.into())?;
+    text.append(b": ")?;
+    append_text(&mut text, chart, reply)?;
+    text.push(b'\n')?;
+    Ok(text)
 }

@@ -1,18 +1,20 @@
 //! Scripts of the central run.
-ghost use Rattle.std.specs.Prelude.{◌≡◌, ◌≤◌, length, IfOk, IfSome};
+ghost use Rattle.std.specs.Prelude.{◌≡◌, ◌≤◌, ◌++◌, [], length, IfOk, OnOk};
 ghost use Rattle.std.specs.Result.{result_ok};
 ghost use Rattle.wf_model.specs.Accepted.{IsAccepted};
 ghost use Rattle.wf_lex.specs.Lex.{tokens_of};
-ghost use Rattle.wf_audit.specs.Names.{found_in};
+ghost use Rattle.wf_audit.specs.Finders.{finder_of};
 ghost use Rattle.wf_audit.specs.Script as spec;
 
 use crate::lines::split_line;
 use crate::names::Names;
+use crate::outer::outer_of;
+use crate::values::text_at;
 use std::alloc::Global;
 use thiserror::Error;
-use wf_lex::{LexFault, Token, tokens, tokens_are_slices};
+use wf_lex::{LexFault, Token, tokens};
 use wf_model::limits::MAX_INPUT;
-use wf_model::{Chart, EventId, List, NoMemory, Outer, UnitId};
+use wf_model::{Chart, List, NoMemory, Outer, UnitId};
 
 /// A line of a script.
 #[derive(Debug, Drop)]
@@ -46,15 +48,6 @@ impl From<NoMemory> for ScriptFault {
     }
 }
 
-// The bytes of a token.
-fn text_at<'a>(line: &'a [u8], token: &Token) -> &'a [u8]
-    requires ordered { token.now.start ≤ token.now.end }
-    requires within { token.now.end ≤ length line.now }
-    ensures { result.now ≡ spec.text_at line.now token.now }
-{
-    &line[token.start as usize..token.end as usize]
-}
-
 fn command(word: &[u8]) -> Option<CentralLine>
     ensures { result ≡ spec.command word.now }
 {
@@ -67,62 +60,62 @@ fn command(word: &[u8]) -> Option<CentralLine>
     }
 }
 
-fn happening(unit: Option<u32>, event: Option<u32>) -> Option<CentralLine>
-    ensures { result ≡ spec.happening unit event }
+fn coming_to(unit: Option<u32>, outer: Option<Outer>) -> Option<CentralLine>
+    ensures { result ≡ spec.coming_to unit outer }
 {
     Some(CentralLine::Outer {
         unit: UnitId(unit?),
-        outer: Outer::Happen(EventId(event?)),
+        outer: outer?,
     })
 }
 
-// The line `outer U event E`, if these four words are one.
-fn outer_of(
+// The line `outer U event E` or `outer U done A N [ gives .. ]`, if these tokens are one.
+fn outer_line(
+    alloc: Global,
     names: &Names,
-    first: &[u8],
-    unit: &[u8],
-    kind: &[u8],
-    event: &[u8],
-) -> Option<CentralLine>
-    ensures { result ≡ spec.outer_of (found_in names.now.units) (found_in names.now.events) first.now unit.now kind.now event.now }
+    line: &[u8],
+    first: &Token,
+    unit: &Token,
+    kind: &Token,
+    tokens: &[Token],
+) -> Result<Option<CentralLine>, NoMemory>
+    ensures { IfOk result (λ found. found ≡ spec.outer_line (finder_of names.now) line.now first.now unit.now kind.now tokens.now) }
 {
-    if first == b"outer".as_slice() && kind == b"event".as_slice() {
-        happening(names.unit(unit), names.event(event))
+    if text_at(line, first) == b"outer".as_slice() {
+        let outer = outer_of(alloc, names, line, text_at(line, kind), tokens)?;
+        Ok(coming_to(names.unit(text_at(line, unit)), outer))
     } else {
-        None
+        Ok(None)
     }
 }
 
 // What a line of these tokens says, if it is in the grammar.
-fn said_by(names: &Names, line: &[u8], tokens: &[Token]) -> Option<Option<CentralLine>>
-    requires { spec.AreWithin (length line.now) tokens.now }
-    ensures { result ≡ spec.said_by (found_in names.now.units) (found_in names.now.events) line.now tokens.now }
+#[tactic(auto, unfolding(crate::specs::Script::said_by))]
+fn said_by(
+    alloc: Global,
+    names: &Names,
+    line: &[u8],
+    tokens: &[Token],
+) -> Result<Option<Option<CentralLine>>, NoMemory>
+    ensures { IfOk result (λ said. said ≡ spec.said_by (finder_of names.now) line.now tokens.now) }
 {
     match tokens {
-        [] => Some(None),
-        [word] => Some(Some(command(text_at(line, word))?)),
-        [first, unit, kind, event] => Some(Some(outer_of(
-            names,
-            text_at(line, first),
-            text_at(line, unit),
-            text_at(line, kind),
-            text_at(line, event),
-        )?)),
-        _ => None,
+        [] => Ok(Some(None)),
+        [word] => Ok(command(text_at(line, word)).map(Some)),
+        [first, unit, kind, tokens @ ..] => {
+            Ok(outer_line(alloc, names, line, first, unit, kind, tokens)?.map(Some))
+        }
+        _ => Ok(None),
     }
 }
 
 // The tokens of a line, if it has no fault.
 fn line_tokens(alloc: Global, line: &[u8]) -> Result<Option<List<Token>>, NoMemory>
     requires { length line.now ≤ MAX_INPUT }
-    ensures exact { IfOk result (λ found. found ≡ result_ok (tokens_of line.now)) }
-    ensures within { IfOk result (λ found. IfSome found (λ tokens. spec.AreWithin (length line.now) tokens)) }
+    ensures { IfOk result (λ found. found ≡ result_ok (tokens_of line.now)) }
 {
     match tokens(alloc, line) {
-        Ok(found) => {
-            tokens_are_slices(line, found.as_slice());
-            Ok(Some(found))
-        }
+        Ok(found) => Ok(Some(found)),
         Err(LexFault::NoMemory) => Err(NoMemory),
         Err(_) => Ok(None),
     }
@@ -137,23 +130,37 @@ fn line_at(
     line: &[u8],
 ) -> Result<Option<CentralLine>, ScriptFault>
     requires { length line.now ≤ MAX_INPUT }
-    ensures { spec.Gives result (spec.line_at (found_in names.now.units) (found_in names.now.events) number line.now) }
+    ensures { spec.Gives result (spec.line_at (finder_of names.now) number line.now) }
 {
     let said = match line_tokens(alloc, line)? {
-        Some(tokens) => said_by(names, line, tokens.as_slice()),
+        Some(tokens) => said_by(alloc, names, line, tokens.as_slice())?,
         None => None,
     };
     said.ok_or(ScriptFault::Refused { line: number })
 }
 
-/// What the lines of a script say of this chart, one entry a line: none for a line without tokens. Refuses the first
-/// line that is outside the grammar. Linear in the script on average.
+// Adds the line with this number, if it says something.
+fn add(
+    lines: &mut List<(u32, CentralLine)>,
+    number: u32,
+    said: Option<CentralLine>,
+) -> Result<(), NoMemory>
+    ensures { OnOk result (lines.new ≡ lines.old ++ spec.with_line number said []) }
+{
+    match said {
+        Some(line) => lines.push((number, line)),
+        None => Ok(()),
+    }
+}
+
+/// The lines of a script that say something of this chart, each with its number, counted from 1 over all lines. Refuses
+/// the first line that is outside the grammar. Linear in the script on average.
 #[tactic(auto, unfolding(crate::specs::Script::script_of))]
 pub fn read_central(
     alloc: Global,
     chart: &Chart,
     script: &[u8],
-) -> Result<List<Option<CentralLine>>, ScriptFault>
+) -> Result<List<(u32, CentralLine)>, ScriptFault>
     requires accepted { IsAccepted chart.now }
     requires within { length script.now ≤ MAX_INPUT }
     ensures { spec.Gives result (spec.script_of chart.now script.now) }
@@ -165,7 +172,8 @@ pub fn read_central(
     while !rest.is_empty() {
         let (line, more) = split_line(rest);
         number += 1;
-        lines.push(line_at(alloc, &names, number, line)?)?;
+        let said = line_at(alloc, &names, number, line)?;
+        add(&mut lines, number, said)?;
         rest = more;
     }
     Ok(lines)

@@ -1,11 +1,11 @@
 //! A script with each kind of line, and a text with each reply.
-use crate::{Reply, append_reply, divide};
+use crate::{Reply, divide, reply_line};
 use std::alloc::Global;
 use std::test::Fail;
 use wf_central::StepNotes;
 use wf_model::{
-    ActId, Activity, Bytes, Chart, Event, EventId, Kind, List, Name, NoMemory, Outer, OuterFault,
-    Output, Sort, State, StateId, TransId, Txt, UnitId, Val, VarId, Variable,
+    ActId, Activity, Chart, Event, EventId, Kind, List, Name, NoMemory, Outer, OuterFault, Output,
+    Sort, State, StateId, TransId, Txt, UnitId, Val, VarId, Variable,
 };
 
 fn state(
@@ -112,19 +112,23 @@ fn stepped(alloc: Global) -> Result<Reply, NoMemory> {
 fn writes_each_reply(rt: HostRuntime) -> Result<(), Fail> {
     let alloc = rt.alloc();
     let chart = chart_with_values(alloc)?;
-    let mut text: Bytes = List::new(alloc);
-    append_reply(alloc, &mut text, &chart, 1, &Reply::Ok)?;
-    append_reply(
-        alloc,
-        &mut text,
-        &chart,
-        2,
-        &Reply::Refused(OuterFault::WrongUnit),
-    )?;
-    append_reply(alloc, &mut text, &chart, 10, &stepped(alloc)?)?;
-    append_reply(alloc, &mut text, &chart, 11, &sight(alloc)?)?;
-    let wanted =
-        b"1: ok\n2: wrong unit\n10: step 8 fired t0 t12 starts job#3\n11: after 7 in R P vars x=-1 x=true x=\"w\" raised fault go\n";
-    assert_eq!(rt; text.as_slice(), wanted.as_slice());
+    let rows = [
+        (1, Reply::Ok, "1: ok\n"),
+        (2, Reply::Refused(OuterFault::WrongUnit), "2: wrong unit\n"),
+        (
+            10,
+            stepped(alloc)?,
+            "10: step 8 fired t0 t12 starts job#3\n",
+        ),
+        (
+            11,
+            sight(alloc)?,
+            "11: after 7 in R P vars x=-1 x=true x=\"w\" raised fault go\n",
+        ),
+    ];
+    for (line, reply, wanted) in rows {
+        let text = reply_line(alloc, &chart, line, &reply)?;
+        assert_eq!(rt; text.as_slice(), wanted.as_bytes());
+    }
     Ok(())
 }

@@ -6,7 +6,9 @@ use std::alloc::Global;
 use std::test::Fail;
 use wf_audit::{CentralLine, ScriptFault, read_central};
 use wf_check::check;
-use wf_model::{Checked, EventId, Kind, Outer, StateId, TransId, UnitId};
+use wf_model::{
+    ActId, Checked, EventId, Kind, List, Outer, Output, StateId, TransId, UnitId, Val, VarId,
+};
 use wf_scopes::{Scopes, kind_of, parent_at};
 use wf_text::read_chart;
 
@@ -17,6 +19,13 @@ or R at a { and A at a {
   or C at a { basic C1 at a; basic C2 at a; } } }
 from B1 to B2 on e;
 from B2 to C2 on f;
+";
+
+/// An activity that gives three variables.
+const JOB: &str =
+    "chart w; unit a; event e at a; var x : int = 0; var y : text = \"\"; var z : bool = false;
+activity job at a gives x, y, z;
+or R at a { basic S at a; }
 ";
 
 /// The chart of a text.
@@ -52,19 +61,91 @@ fn scripts(rt: HostRuntime) -> Result<(), Fail> {
     let checked = checked(alloc, SIDES.as_bytes())?;
     let script = b"outer a event f\r\n# nothing\n step\nshow # now";
     let lines = read_central(alloc, checked.chart(), script)?;
-    assert_eq!(rt; lines.len(), 4);
+    assert_eq!(rt; lines.len(), 3);
     assert!(rt;
         matches!(
             lines.get(0),
-            Some(Some(CentralLine::Outer {
-                unit: UnitId(0),
-                outer: Outer::Happen(EventId(2)),
-            }))
+            Some((
+                1,
+                CentralLine::Outer {
+                    unit: UnitId(0),
+                    outer: Outer::Happen(EventId(2)),
+                }
+            ))
         )
     );
-    assert!(rt; matches!(lines.get(1), Some(None)));
-    assert!(rt; matches!(lines.get(3), Some(Some(CentralLine::Show))));
+    assert!(rt; matches!(lines.get(1), Some((3, CentralLine::Step))));
+    assert!(rt; matches!(lines.get(2), Some((4, CentralLine::Show))));
     let fault = read_central(alloc, checked.chart(), b"step\n\nouter f event a\n").err();
     assert_eq!(rt; fault, Some(ScriptFault::Refused { line: 3 }));
+    Ok(())
+}
+
+#[test]
+fn lines_of_the_grammar(rt: HostRuntime) -> Result<(), Fail> {
+    let alloc = rt.alloc();
+    let checked = checked(alloc, JOB.as_bytes())?;
+    let rows = [
+        ("outer a event fault", true),
+        ("outer a done job 0", true),
+        ("outer a done job 0004294967295 # last", true),
+        ("outer a done job 1 gives x = -9223372036854775808", true),
+        (
+            "outer a done job 1 gives y = \"a, b\",z=true, x = 0,x= false",
+            true,
+        ),
+        ("---", false),
+        ("step show", false),
+        ("step @", false),
+        ("outer a event job", false),
+        ("outer a event e e", false),
+        ("outer a done job", false),
+        ("outer a done x 1", false),
+        ("outer a done job -1", false),
+        ("outer a done job 4294967296", false),
+        ("outer a done job 1 gives", false),
+        ("outer a done job 1 x = 1", false),
+        ("outer a done job 1 gives x = 1,", false),
+        ("outer a done job 1 gives x := 1", false),
+        ("outer a done job 1 gives job = 1", false),
+        ("outer a done job 1 gives x = 9223372036854775808", false),
+        ("outer a done job 1 gives x = --1", false),
+        ("outer a done job 1 gives x = -true", false),
+    ];
+    for (line, is_in) in rows {
+        let found = read_central(alloc, checked.chart(), line.as_bytes());
+        assert_eq!(rt; found.is_ok(), is_in, "at {line}");
+    }
+    Ok(())
+}
+
+#[test]
+fn completions(rt: HostRuntime) -> Result<(), Fail> {
+    let alloc = rt.alloc();
+    let checked = checked(alloc, JOB.as_bytes())?;
+    let script = b"\nouter a done job 007 gives x = -08, z = true";
+    let lines = read_central(alloc, checked.chart(), script)?;
+    let outputs = [
+        Output {
+            var: VarId(0),
+            val: Val::Int(-8),
+        },
+        Output {
+            var: VarId(2),
+            val: Val::Bool(true),
+        },
+    ];
+    let outer = Outer::Complete {
+        item: 7,
+        act: ActId(0),
+        outputs: List::from_slice(alloc, &outputs)?,
+    };
+    match lines.as_slice() {
+        [(2, CentralLine::Outer { unit, outer: found })] => {
+            assert_eq!(rt; *unit, UnitId(0));
+            assert_eq!(rt; *found, outer);
+        }
+        _ => assert!(rt; false, "one line"),
+    }
     Ok(())
 }

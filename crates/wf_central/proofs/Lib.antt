@@ -1,7 +1,10 @@
 pub mod Starts
 pub mod Firing
 pub mod Choosing
-pub mod Quiet
 pub mod Passing
-pub mod Admits
+pub mod Writing
+pub mod Sorts
+pub mod Sights
+pub mod Few
 pub mod Same
+pub mod Marking

@@ -1,34 +1,25 @@
 -- The passes over the tables make the step of the central run.
-use Rattle.std.proofs.Common.{◌≡◌, ℕ, ◌<◌, ◌≤◌, ◌==◌, ◌||◌, ◌&&◌, cond, Bool, true, false, List, [], ◌∷◌, length, map, filter, find, get_or, Option, Some, None, is_some, unwrap_or, inl, inr, refl, sym, ◌∙◌, ap, ap₂, arith, IfSome}
-use Rattle.std.specs.List.{list_any, range_with_len, slice_get}
+use Rattle.std.proofs.Common.{◌≡◌, ℕ, ◌<◌, ◌≤◌, ◌==◌, ◌||◌, ◌&&◌, cond, Bool, true, false, List, [], ◌∷◌, length, map, filter, find, get_or, Option, Some, None, is_some, unwrap_or, inl, inr, refl, sym, ◌∙◌, ap, ap₂, subst, arith, IfSome}
+use Rattle.std.specs.List.{All, list_any, range_with_len, slice_get}
 use Rattle.std.specs.Option.{option_map}
 use Rattle.wf_model.specs.declared.ids.TransId.{TransId}
-use Rattle.wf_model.specs.declared.ids.EventId.{EventId}
-use Rattle.wf_model.specs.declared.expr.Expr.{Expr}
-use Rattle.wf_model.specs.declared.chart.Transition.{Transition}
 use Rattle.wf_model.specs.declared.chart.Chart.{Chart}
-use Rattle.wf_model.specs.declared.outer.Entry.{Entry}
 use Rattle.wf_model.specs.Accepted.{IsAccepted}
-use Rattle.wf_central.specs.Plain.{is_plain}
 use Rattle.wf_model.specs.Tree.{scope, source, ancestors, all_states, all_transitions}
-use Rattle.wf_semantics.specs.Configuration.{is_in, IsConfiguration}
+use Rattle.wf_semantics.specs.Configuration.{Tree, is_in}
 use Rattle.wf_semantics.specs.Walk.{new_tree, fired_of, first_of_scope}
-use Rattle.wf_semantics.specs.Flat.{HaveActiveSources}
-use Rattle.wf_semantics.specs.Snapshot.{is_active, has_event, has_guard, is_ready, is_enabled}
-use Rattle.wf_semantics.specs.Run.{CentralState, snapshot_of, is_happening}
 use Rattle.wf_semantics.proofs.Bools.{Mem, any_agree}
-use Rattle.wf_semantics.proofs.Lists.{mem_among, filter_agree, find_some}
-use Rattle.wf_semantics.proofs.Children.{item_at, lt_or_ge}
+use Rattle.wf_semantics.proofs.Lists.{mem_among, filter_agree, filter_mem, find_some}
+use Rattle.wf_semantics.proofs.Children.{lt_or_ge}
 use Rattle.wf_semantics.proofs.Facts.{IsChart, chart_of}
 use Rattle.wf_semantics.proofs.Places.{above_low}
 use Rattle.wf_semantics.proofs.Scopes.{scope_facts}
 use Rattle.wf_semantics.proofs.Steps.{transition_mem}
-use Rattle.wf_semantics.proofs.Runs.{enabled_sources, snapshot_shows}
 use Rattle.wf_scopes.specs.Tables.{state_id}
 use Rattle.wf_scopes.proofs.Rows.{row_get, row_len}
 use Rattle.wf_central.specs.Kept.{bit}
-use Rattle.wf_central.specs.Passes.{trans_id, comes, is_ready_by, ready_by, at, chosen_by, firing_by, is_number, fired_by, or_else, first_ids, bit_by, moved_by}
-use Rattle.wf_central.proofs.Quiet.{no_guard}
+use Rattle.wf_central.specs.Made.{AreBits}
+use Rattle.wf_central.specs.Passes.{trans_id, at, chosen_by, firing_by, is_number, fired_by, or_else, first_ids, bit_by, moved_by}
 use Rattle.wf_central.proofs.Firing.{firing_at, first_by, or_other, is_this, bit_after, fired_list, bit_moves}
 
 abbrev ids : Option ℕ → Option TransId
@@ -41,7 +32,7 @@ row_bit f n z bits e lt = ap (λ (o : Option Bool). unwrap_or o false) (row_get 
 row_entry : (f : ℕ → Option TransId) (n z : ℕ) (table : List (Option TransId)) → table ≡ map f (range_with_len 0 n) → z < n → at table z ≡ f z
 row_entry f n z table e lt = ap (λ (o : Option (Option TransId)). unwrap_or o None) (row_get f n z table e lt)
 
-past_end : {A : Type 0} (xs : List A) (i : ℕ) → length xs ≤ i → slice_get xs i ≡ None
+pub past_end : {A : Type 0} (xs : List A) (i : ℕ) → length xs ≤ i → slice_get xs i ≡ None
 past_end [] i h = refl
 past_end (x ∷ xs) Rattle.std.proofs.Common.zero h = absurd (omega arith)
 past_end (x ∷ xs) (Rattle.std.proofs.Common.suc i) h = past_end xs i (omega arith)
@@ -97,52 +88,20 @@ firing_known chart ready chosen firing made_chosen made_firing s = elim (lt_or_g
         let at_u : t ≡ trans_id u = cc in
         omega (arith, ap (λ (x : TransId). x.0) at_u, transition_mem chart u (find_some (λ t. bit ready t && (scope chart t == s)) (all_transitions chart) u q).0)
 
-module _ (chart : Chart) (accepted : IsAccepted chart) (plain : is_plain chart ≡ true) (c : CentralState) (conf : IsConfiguration chart c.configuration) (quiet : c.raised ≡ [])
-    (active : List Bool) (entries : List Entry) (shown : active ≡ map (λ z. is_in z c.configuration) (all_states chart)) where
-  abbrev enabled : ℕ → Bool
-  enabled = is_enabled chart (snapshot_of chart c entries)
-
+module _ (chart : Chart) (accepted : IsAccepted chart) (c : Tree) (enabled : ℕ → Bool) (active : List Bool) (ready : List Bool) (bits : AreBits chart c enabled active ready) where
   ok : IsChart chart
   ok = chart_of chart accepted
-
-  pub sources : HaveActiveSources chart enabled c.configuration
-  sources = enabled_sources chart (snapshot_of chart c entries) c.configuration (snapshot_shows chart c entries)
 
   scope_in : (t : ℕ) → t < length chart.transitions → scope chart t < length chart.states
   scope_in t lt = omega (arith, above_low chart ok (scope chart t) (source chart t) (scope_facts chart ok t lt).2, (ok.sources t lt).1)
 
-  comes_as : (o : Option EventId) → comes entries o ≡ has_event (snapshot_of chart c entries) o
-  unfolding snapshot_of
-  comes_as None = refl
-  comes_as (Some e) = ap (λ (l : List EventId). list_any (λ r. r.0 == e.0) l || list_any (λ x. is_happening e.0 x.outer) entries) (sym quiet)
-
-  active_as : (s : ℕ) → s < length chart.states → bit active s ≡ is_active (snapshot_of chart c entries) s
-  unfolding snapshot_of
-  active_as s lt = row_bit (λ z. is_in z c.configuration) (length chart.states) s active shown lt
-
-  and_true : (b : Bool) → b ≡ (b && true)
-  and_true true = refl
-  and_true false = refl
-
-  -- a transition is ready where it is enabled
-  pub ready_as : (t : ℕ) → t < length chart.transitions → ready_by chart active entries t ≡ enabled t
-  unfolding is_enabled
-  ready_as t lt =
-      let w = item_at chart.transitions t lt in
-      let from : source chart t ≡ w.0.source.0 = ap (λ (o : Option Transition). unwrap_or (option_map (λ trans. trans.source.0) o) 0) w.1 in
-      ap (λ (o : Option Transition). unwrap_or (option_map (is_ready_by active entries) o) false) w.1
-      ∙ ap₂ (λ (a b : Bool). a && b) (active_as w.0.source.0 (omega (arith, (ok.sources t lt).1, from))) (comes_as w.0.event ∙ and_true (has_event (snapshot_of chart c entries) w.0.event)
-      ∙ ap (λ (g : Option Expr). has_event (snapshot_of chart c entries) w.0.event && has_guard (snapshot_of chart c entries) g) (sym (no_guard chart plain t w.0 w.1)))
-      ∙ sym (ap (λ (o : Option Transition). unwrap_or (option_map (is_ready (snapshot_of chart c entries)) o) false) w.1)
-
-  module _ (ready : List Bool) (chosen firing : List (Option TransId)) (made_ready : ready ≡ map (ready_by chart active entries) (all_transitions chart))
-      (made_chosen : chosen ≡ map (chosen_by chart ready) (all_states chart)) (made_firing : firing ≡ map (firing_by chart chosen) (all_states chart)) where
+  module _ (chosen firing : List (Option TransId)) (made_chosen : chosen ≡ map (chosen_by chart ready) (all_states chart)) (made_firing : firing ≡ map (firing_by chart chosen) (all_states chart)) where
     chosen_as : (s : ℕ) → s < length chart.states → at chosen s ≡ ids (first_of_scope chart enabled s)
     chosen_as s lt =
         row_entry (chosen_by chart ready) (length chart.states) s chosen made_chosen lt
         ∙ ap ids (find_agree (λ t. bit ready t && (scope chart t == s)) (λ t. enabled t && (scope chart t == s)) (all_transitions chart)
         (λ t m. let tl = transition_mem chart t m in
-        ap (λ (b : Bool). b && (scope chart t == s)) (row_bit (ready_by chart active entries) (length chart.transitions) t ready made_ready tl ∙ ready_as t tl)))
+        ap (λ (b : Bool). b && (scope chart t == s)) (row_bit enabled (length chart.transitions) t ready bits.tests tl)))
 
     firing_as : (s : ℕ) → s < length chart.states → at firing s ≡ ids (firing_at chart enabled s)
     firing_as s lt =
@@ -158,10 +117,10 @@ module _ (chart : Chart) (accepted : IsAccepted chart) (plain : is_plain chart �
     fired_as t lt = ap (is_number t) (firing_as (scope chart t) (scope_in t lt)) ∙ is_same t (firing_at chart enabled (scope chart t))
 
     -- the transitions that fire
-    pub fired_made : filter (fired_by chart firing) (all_transitions chart) ≡ fired_of chart enabled c.configuration
+    pub fired_made : filter (fired_by chart firing) (all_transitions chart) ≡ fired_of chart enabled c
     fired_made =
         filter_agree (fired_by chart firing) (λ t. is_this t (firing_at chart enabled (scope chart t))) (all_transitions chart) (λ t m. fired_as t (transition_mem chart t m))
-        ∙ fired_list chart ok enabled c.configuration conf sources
+        ∙ fired_list chart ok enabled c bits.configuration bits.sources
 
     first_as : (xs : List ℕ) → ((x : ℕ) → Mem x xs → x < length chart.states) → first_ids firing (map state_id xs) ≡ ids (first_by (firing_at chart enabled) xs)
     first_as [] h = refl
@@ -170,9 +129,18 @@ module _ (chart : Chart) (accepted : IsAccepted chart) (plain : is_plain chart �
         ∙ or_same (firing_at chart enabled x) (first_by (firing_at chart enabled) xs)
 
     -- where the states go
-    pub moved_made : (z : ℕ) → z < length chart.states → moved_by chart active firing z ≡ is_in z (new_tree chart enabled c.configuration)
+    pub moved_made : (z : ℕ) → z < length chart.states → moved_by chart active firing z ≡ is_in z (new_tree chart enabled c)
     moved_made z lt =
-        ap₂ (bit_by chart z) (row_bit (λ s. is_in s c.configuration) (length chart.states) z active shown lt)
+        ap₂ (bit_by chart z) (row_bit (λ s. is_in s c) (length chart.states) z active bits.bits lt)
         (first_as (ancestors chart z) (λ a m. let low = above_low chart ok a z (mem_among (ancestors chart z) a m) in omega arith))
-        ∙ bit_same chart z (is_in z c.configuration) (first_by (firing_at chart enabled) (ancestors chart z))
-        ∙ bit_moves chart ok enabled c.configuration conf sources z
+        ∙ bit_same chart z (is_in z c) (first_by (firing_at chart enabled) (ancestors chart z))
+        ∙ bit_moves chart ok enabled c bits.configuration bits.sources z
+
+-- what fired are transitions of the chart
+pub all_known : (chart : Chart) (p : ℕ → Bool) (ids : List TransId) → ids ≡ map trans_id (filter p (all_transitions chart)) → All (λ t. t.0 < length chart.transitions) ids
+all_known chart p ids made = subst (All (λ (t : TransId). t.0 < length chart.transitions)) (sym made) (among (filter p (all_transitions chart)) (λ t m. transition_mem chart t (filter_mem p (all_transitions chart) t m).0))
+  where
+    among : (ts : List ℕ) → ((t : ℕ) → Mem t ts → t < length chart.transitions) → (k : ℕ) (d : TransId) → k < length (map trans_id ts) → (get_or (map trans_id ts) k d).0 < length chart.transitions
+    among [] h k d lt = absurd (omega arith)
+    among (t ∷ ts) h Rattle.std.proofs.Common.zero d lt = h t (inl refl)
+    among (t ∷ ts) h (Rattle.std.proofs.Common.suc k) d lt = among ts (λ u m. h u (inr m)) k d (omega arith)

@@ -1,19 +1,26 @@
 -- What a central state keeps, and which state of a chart it is.
-use Rattle.std.specs.Prelude.{◌≡◌, ℕ, Bool, false, List, [], map, unwrap_or, slice_get}
+use Rattle.std.specs.Prelude.{◌≡◌, ◌*◌, ◌≤◌, ℕ, Bool, false, List, length, map, unwrap_or, slice_get}
+use Rattle.wf_model.specs.declared.limits.TheConstants.{MAX_TRANSITIONS, MAX_ACTIONS}
 use Rattle.wf_model.specs.declared.ids.EventId.{EventId}
+use Rattle.wf_model.specs.declared.value.Val.{Val}
 use Rattle.wf_model.specs.declared.chart.Chart.{Chart}
 use Rattle.wf_model.specs.declared.outer.Entry.{Entry}
 use Rattle.wf_model.specs.Tree.{all_states}
 use Rattle.wf_semantics.specs.Configuration.{is_in}
 use Rattle.wf_semantics.specs.Bits.{tree_of_bits}
 use Rattle.wf_semantics.specs.Run.{CentralState, fired_in, started_in}
+use Rattle.wf_semantics.specs.Shown.{HasSorts}
 use Rattle.wf_scopes.specs.Tables.{Tables, tables_of}
+use Rattle.wf_activities.specs.Stock.{Stock, AreOf, items_at}
 use Rattle.wf_central.specs.declared.notes.StepNotes.{StepNotes}
 
 pub record Kept : Type 0 where
   -- for each state, whether it is in
   pub active : List Bool
+  -- the value of each variable
+  pub store : List Val
   pub raised : List EventId
+  pub items : Stock
   pub taken : ℕ
   pub tables : Tables
 
@@ -21,15 +28,18 @@ pub record Kept : Type 0 where
 abbrev pub bit : List Bool → ℕ → Bool
 bit bits z = unwrap_or (slice_get bits z) false
 
--- the state of a plain chart that is kept so: no variable has a value, and no item was started
+-- the state that is kept so
 unfoldable pub central_of : Chart → Kept → CentralState
 central_of chart kept =
-    record { configuration = tree_of_bits chart (bit kept.active); store = []; raised = kept.raised; items = λ u. []; taken = kept.taken }
+    record { configuration = tree_of_bits chart (bit kept.active); store = kept.store; raised = kept.raised; items = items_at kept.items; taken = kept.taken }
 
--- what is kept is a state of this chart: the states that are in make a configuration, and the tables are the chart's
+-- what is kept is a state of this chart: the states that are in make a configuration, each variable has a value of its
+-- sort, each step started no more items than a step can, and the tables are the chart's
 pub record IsOf (chart : Chart) (kept : Kept) : Type 0 where
   pub active : kept.active ≡ map (λ z. is_in z (central_of chart kept).configuration) (all_states chart)
-  pub quiet : kept.raised ≡ []
+  pub sorts : HasSorts chart kept.store
+  pub stock : AreOf chart kept.items
+  pub few : (u : ℕ) → length (items_at kept.items u) ≤ kept.taken * (MAX_TRANSITIONS * MAX_ACTIONS)
   pub tables : kept.tables ≡ tables_of chart
 
 -- what the step does that these entries bring

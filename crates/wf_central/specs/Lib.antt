@@ -1,4 +1,4 @@
-pub mod Plain
 pub mod Kept
 pub mod Passes
+pub mod Sight
 pub mod Made

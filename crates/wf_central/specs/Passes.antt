@@ -1,33 +1,17 @@
 -- What each pass of a step makes of the one before it.
 use Rattle.std.specs.Prelude.{ℕ, ◌-◌, ◌==◌, ◌&&◌, Bool, true, false, List, [], ◌∷◌, Option, Some, None, is_some, unwrap_or, slice_get, find, length, option_map, if◌then◌else◌}
 use Rattle.std.specs.List.{list_any, range_with_len}
-use Rattle.wf_model.specs.declared.ids.EventId.{EventId}
 use Rattle.wf_model.specs.declared.ids.StateId.{StateId}
 use Rattle.wf_model.specs.declared.ids.TransId.{TransId}
-use Rattle.wf_model.specs.declared.chart.Transition.{Transition}
 use Rattle.wf_model.specs.declared.chart.Chart.{Chart}
-use Rattle.wf_model.specs.declared.outer.Entry.{Entry}
 use Rattle.wf_model.specs.Tree.{ancestors, scope, all_transitions}
 use Rattle.wf_semantics.specs.Configuration.{is_in}
 use Rattle.wf_semantics.specs.Entry.{entry_tree}
-use Rattle.wf_semantics.specs.Run.{is_happening}
 use Rattle.wf_scopes.specs.Tables.{ancestor_ids}
 use Rattle.wf_central.specs.Kept.{bit}
 
 abbrev pub trans_id : ℕ → TransId
 trans_id t = record { 0 = t }
-
--- the event, if any, happens in these entries
-abbrev pub comes : List Entry → Option EventId → Bool
-comes entries None = true
-comes entries (Some e) = list_any (λ x. is_happening e.0 x.outer) entries
-
--- the source is in, and the event comes
-abbrev pub is_ready_by : List Bool → List Entry → Transition → Bool
-is_ready_by active entries trans = bit active trans.source.0 && comes entries trans.event
-
-abbrev pub ready_by : Chart → List Bool → List Entry → ℕ → Bool
-ready_by chart active entries t = unwrap_or (option_map (is_ready_by active entries) (slice_get chart.transitions t)) false
 
 -- the transition, if any, that stands for state s
 abbrev pub at : List (Option TransId) → ℕ → Option TransId

@@ -2,11 +2,11 @@
 #![tactic(auto)]
 
 mod notes;
+mod outputs;
 mod passes;
-mod plain;
+mod snapshot;
 mod start;
 mod state;
 
 pub use notes::StepNotes;
-pub use plain::is_plain;
 pub use state::CentralState;

@@ -1,18 +1,28 @@
-//! The passes of a step: which transitions are ready, which are chosen, which fire, and which states are in then.
-ghost use Rattle.std.specs.Prelude.{◌≡◌, ◌<◌, ℕ, None, map, filter, length, is_some, IsTrue, IfOk, IfSome};
-ghost use Rattle.wf_central.specs.Plain.{is_plain};
-ghost use Rattle.wf_semantics.specs.Run.{CentralState};
-ghost use Rattle.wf_central.specs.Made.{IsShown, MakesStep};
+//! The passes of a step: which events are there, which transitions are ready, which are chosen, which fire, which states
+//! are in then, and what the fired transitions do besides.
+ghost use Rattle.std.specs.Prelude.{◌≡◌, ◌<◌, ◌||◌, ℕ, Bool, true, false, List as Listed, None, All, map, filter, length, is_some, slice_set, IfOk, IfSome};
 ghost use Rattle.std.specs.List.{list_any};
 ghost use Rattle.wf_model.specs.Accepted.{IsAccepted};
+ghost use Rattle.wf_model.specs.Seen.{Seen};
 ghost use Rattle.wf_model.specs.Tree.{all_states, all_transitions, ancestors};
-ghost use Rattle.wf_semantics.specs.Run.{is_happening};
+ghost use Rattle.wf_semantics.specs.Configuration.{Tree};
+ghost use Rattle.wf_semantics.specs.Run.{CentralState, is_happening};
+ghost use Rattle.wf_semantics.specs.Shown.{HasSorts};
+ghost use Rattle.wf_semantics.specs.Snapshot.{has_event, has_guard, is_ready, is_enabled};
 ghost use Rattle.wf_scopes.specs.Tables.{tables_of, ancestor_ids};
+ghost use Rattle.wf_effects.specs.Seeing.{seeing};
 ghost use Rattle.wf_central.specs.Kept.{bit};
-ghost use Rattle.wf_central.specs.Passes.{trans_id, comes, is_ready_by, ready_by, at, chosen_by, firing_by, fired_by, first_ids, bit_by, moved_by};
+ghost use Rattle.wf_central.specs.Passes.{trans_id, at, chosen_by, firing_by, fired_by, first_ids, bit_by, moved_by};
+ghost use Rattle.wf_central.specs.Sight.{CanBeRead, was_raised, is_there_by, all_events};
+ghost use Rattle.wf_central.specs.Made.{seen_of, AreBits, MakesWalk, IsSeen, MakesStep};
 
+use crate::snapshot::{StepSnapshot, is_set};
 use std::alloc::Global;
-use wf_model::{Chart, Entry, EventId, List, NoMemory, Outer, StateId, TransId, Transition};
+use wf_effects::effects;
+use wf_expr::value;
+use wf_model::{
+    Chart, Entry, EventId, Expr, List, NoMemory, Outer, StartAt, StateId, TransId, Transition, Val,
+};
 use wf_scopes::Scopes;
 
 fn is_happening(outer: &Outer, e: EventId) -> bool
@@ -24,48 +34,110 @@ fn is_happening(outer: &Outer, e: EventId) -> bool
     }
 }
 
-fn happens(outer: &[Entry], e: EventId) -> bool
-    ensures { result ≡ list_any (λ x. is_happening e.0 x.outer) outer.now }
+fn happens(entries: &[Entry], e: EventId) -> bool
+    ensures { result ≡ list_any (λ x. is_happening e.0 x.outer) entries.now }
 {
-    outer.iter().any(|x| is_happening(&x.outer, e))
+    entries.iter().any(|x| is_happening(&x.outer, e))
 }
 
-fn comes(outer: &[Entry], event: Option<EventId>) -> bool
-    ensures { result ≡ comes outer.now event }
+// No event, for each event of the chart.
+fn none_there(alloc: Global, chart: &Chart) -> Result<List<bool>, NoMemory>
+    ensures { IfOk result (λ bits. bits ≡ map (λ e. false) (all_events chart.now)) }
+{
+    let mut bits = List::new(alloc);
+    for _event in chart.events.as_slice() {
+        bits.push(false)?;
+    }
+    Ok(bits)
+}
+
+fn mark(bits: &mut List<bool>, at: usize)
+    ensures { bits.new ≡ slice_set bits.old at true }
+{
+    if at < bits.len() {
+        bits.set(at, true);
+    }
+}
+
+// For each event of the chart, whether it was raised.
+fn marked(alloc: Global, chart: &Chart, raised: &[EventId]) -> Result<List<bool>, NoMemory>
+    ensures { IfOk result (λ bits. bits ≡ map (was_raised raised.now) (all_events chart.now)) }
+{
+    let mut bits = none_there(alloc, chart)?;
+    for event in raised {
+        mark(&mut bits, event.0 as usize);
+    }
+    Ok(bits)
+}
+
+fn is_there(marked: &[bool], entries: &[Entry], e: EventId) -> bool
+    ensures { result ≡ (bit marked.now e.0 || list_any (λ x. is_happening e.0 x.outer) entries.now) }
+{
+    is_set(marked, e.0 as usize) || happens(entries, e)
+}
+
+/// For each event of the chart, whether it is there: raised in the last step, or happening in these entries. Grows with the
+/// events times the entries.
+pub fn there(
+    alloc: Global,
+    chart: &Chart,
+    raised: &[EventId],
+    entries: &[Entry],
+) -> Result<List<bool>, NoMemory>
+    requires { IsAccepted chart.now }
+    ensures { IfOk result (λ bits. bits ≡ map (is_there_by raised.now entries.now) (all_events chart.now)) }
+{
+    let marked = marked(alloc, chart, raised)?;
+    let mut bits = List::new(alloc);
+    for e in 0..chart.events.len() {
+        bits.push(is_there(marked.as_slice(), entries, EventId(e as u32)))?;
+    }
+    Ok(bits)
+}
+
+fn has_event(there: &[bool], event: Option<EventId>) -> bool
+    ensures { (seen : Seen) → result ≡ has_event (seeing seen (bit there.now)) event }
 {
     match event {
-        Some(e) => happens(outer, e),
+        Some(e) => is_set(there, e.0 as usize),
         None => true,
     }
 }
 
-fn is_set(bits: &[bool], at: usize) -> bool
-    ensures { result ≡ bit bits.now at }
+fn has_guard(snap: &StepSnapshot, guard: &Option<Expr>) -> bool
+    requires { IfSome guard.now (CanBeRead (seen_of snap.now)) }
+    ensures { (there : ℕ → Bool) → result ≡ has_guard (seeing (seen_of snap.now) there) guard.now }
 {
-    match bits.get(at) {
-        Some(is_set) => *is_set,
-        None => false,
+    match guard {
+        Some(guard) => matches!(value(guard, snap), Ok(Val::Bool(true))),
+        None => true,
     }
 }
 
-fn is_ready(active: &[bool], outer: &[Entry], transition: &Transition) -> bool
-    ensures { result ≡ is_ready_by active.now outer.now transition.now }
+fn is_ready(snap: &StepSnapshot, there: &[bool], transition: &Transition) -> bool
+    requires { IfSome transition.now.guard (CanBeRead (seen_of snap.now)) }
+    ensures { result ≡ is_ready (seeing (seen_of snap.now) (bit there.now)) transition.now }
 {
-    is_set(active, transition.source.0 as usize) && comes(outer, transition.event)
+    is_set(snap.active, transition.source.0 as usize)
+        && has_event(there, transition.event)
+        && has_guard(snap, &transition.guard)
 }
 
-/// For each transition, whether its source is in and its event comes.
+/// For each transition, whether it is enabled: its source is in, its event there and its guard true. A guard is looked at
+/// only where the other two hold.
 pub fn ready(
     alloc: Global,
     chart: &Chart,
-    active: &[bool],
-    outer: &[Entry],
+    snap: &StepSnapshot,
+    there: &[bool],
 ) -> Result<List<bool>, NoMemory>
-    ensures { IfOk result (λ bits. bits ≡ map (ready_by chart.now active.now outer.now) (all_transitions chart.now)) }
+    requires accepted { IsAccepted chart.now }
+    requires sorts { HasSorts chart.now snap.now.store.now }
+    ensures { IfOk result (λ bits. bits ≡ map (is_enabled chart.now (seeing (seen_of snap.now) (bit there.now))) (all_transitions chart.now)) }
 {
     let mut bits = List::new(alloc);
     for transition in chart.transitions.as_slice() {
-        bits.push(is_ready(active, outer, transition))?;
+        bits.push(is_ready(snap, there, transition))?;
     }
     Ok(bits)
 }
@@ -236,30 +308,66 @@ pub fn moved(
     Ok(bits)
 }
 
-/// What a step makes: the transitions that fired, ascending, and for each state whether it is in then.
+/// What the walk makes: the transitions that fired, ascending, and for each state whether it is in then.
 #[derive(Debug, Drop)]
-pub struct AfterStep {
+pub struct AfterWalk {
     pub fired: List<TransId>,
     pub active: List<bool>,
 }
 
-/// All passes of a step of a plain chart, in which these outers come.
-pub fn pass_all(
+/// The passes from the ready transitions on: which of them fire, and which states are in then.
+pub fn walk(
     alloc: Global,
     chart: &Chart,
     scopes: &Scopes,
     active: &[bool],
-    outer: &[Entry],
-) -> Result<AfterStep, NoMemory>
+    ready: &[bool],
+) -> Result<AfterWalk, NoMemory>
     requires of { scopes.now ≡ tables_of chart.now }
     requires accepted { IsAccepted chart.now }
-    requires plain { IsTrue (is_plain chart.now) }
-    ensures { (c : CentralState) → IsShown chart.now c active.now → IfOk result (MakesStep chart.now c outer.now) }
+    ensures walk { (c : Tree) (enabled : ℕ → Bool) → AreBits chart.now c enabled active.now ready.now → IfOk result (MakesWalk chart.now c enabled) }
+    ensures known { IfOk result (λ after. All (λ t. t.0 < length chart.now.transitions) after.fired) }
 {
-    let ready = ready(alloc, chart, active, outer)?;
-    let chosen = chosen(alloc, chart, scopes, ready.as_slice())?;
+    let chosen = chosen(alloc, chart, scopes, ready)?;
     let firing = firing(alloc, chart, scopes, chosen.as_slice())?;
     let fired = fired(alloc, chart, scopes, firing.as_slice())?;
     let active = moved(alloc, chart, scopes, active, firing.as_slice())?;
-    Ok(AfterStep { fired, active })
+    Ok(AfterWalk { fired, active })
+}
+
+/// What a step makes, but for the items: the transitions that fired, ascending, for each state whether it is in then, the
+/// value of each variable, the raised events, ascending, and the starts, by transition and place.
+#[derive(Debug, Drop)]
+pub struct AfterStep {
+    pub fired: List<TransId>,
+    pub active: List<bool>,
+    pub store: List<Val>,
+    pub raised: List<EventId>,
+    pub starts: List<StartAt>,
+}
+
+/// All passes of a step that sees this snapshot, and these events.
+pub fn pass_all(
+    alloc: Global,
+    chart: &Chart,
+    scopes: &Scopes,
+    snap: &StepSnapshot,
+    there: &[bool],
+) -> Result<AfterStep, NoMemory>
+    requires of { scopes.now ≡ tables_of chart.now }
+    requires accepted { IsAccepted chart.now }
+    requires sorts { HasSorts chart.now snap.now.store.now }
+    ensures step { (c : CentralState) (entries : Listed Entry) → IsSeen chart.now c entries snap.now there.now → IfOk result (MakesStep chart.now c entries) }
+    ensures sorts { IfOk result (λ after. HasSorts chart.now after.store) }
+{
+    let ready = ready(alloc, chart, snap, there)?;
+    let after = walk(alloc, chart, scopes, snap.active, ready.as_slice())?;
+    let effects = effects(alloc, chart, snap, snap.store, after.fired.as_slice())?;
+    Ok(AfterStep {
+        fired: after.fired,
+        active: after.active,
+        store: effects.store,
+        raised: effects.raised,
+        starts: effects.starts,
+    })
 }

@@ -1,4 +1,4 @@
-//! The states that are in before the first step.
+//! The states that are in, and the values of the variables, before the first step.
 ghost use Rattle.std.specs.Prelude.{◌≡◌, ◌<◌, ◌&&◌, false, slice_index_or, map, length, Some, IfOk};
 ghost use Rattle.std.specs.List.{range_with_len};
 ghost use Rattle.wf_model.specs.Accepted.{IsAccepted};
@@ -8,7 +8,7 @@ ghost use Rattle.wf_semantics.specs.Entry.{default_tree, first_child};
 ghost use Rattle.wf_semantics.specs.Picks.{picked_by};
 
 use std::alloc::Global;
-use wf_model::{Chart, Kind, List, NoMemory, StateId};
+use wf_model::{Chart, Kind, List, NoMemory, StateId, Val};
 use wf_scopes::{kind_of, parent_at};
 
 // Whether child `z` of state `p` is in by default where `p` is.
@@ -58,4 +58,15 @@ pub fn default_bits(alloc: Global, chart: &Chart) -> Result<List<bool>, NoMemory
         bits.push(is_default(chart, bits.as_slice(), StateId(z as u32)))?;
     }
     Ok(bits)
+}
+
+/// The value of each variable before the first step.
+pub fn first_values(alloc: Global, chart: &Chart) -> Result<List<Val>, NoMemory>
+    ensures { IfOk result (λ values. values ≡ map (λ x. x.first) chart.now.vars) }
+{
+    let mut values = List::new(alloc);
+    for variable in chart.vars.as_slice() {
+        values.push(variable.first)?;
+    }
+    Ok(values)
 }

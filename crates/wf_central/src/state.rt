@@ -1,26 +1,34 @@
 //! The state of a chart.
-ghost use Rattle.std.specs.Prelude.{◌≡◌, ◌+◌, ◌<◌, length, IsTrue, IfOk, OnOk, OnErr};
-ghost use Rattle.wf_central.specs.Plain.{is_plain};
+ghost use Rattle.std.specs.Prelude.{◌≡◌, ◌+◌, ◌<◌, Some, length, slice_get, IsTrue, IfOk, OnOk, OnErr};
+ghost use Rattle.wf_model.specs.Accepted.{IsAccepted};
 ghost use Rattle.wf_model.specs.declared.chart.Chart.{Chart as AnyChart};
 ghost use Rattle.wf_model.specs.declared.limits.TheConstants.{MAX_STEPS};
 ghost use Rattle.wf_semantics.specs.Configuration.{is_in};
 ghost use Rattle.wf_semantics.specs.Run.{first_state, next_state};
-ghost use Rattle.wf_semantics.specs.Admission.{may_be_admitted, is_event_at};
+ghost use Rattle.wf_semantics.specs.Admission.{may_be_admitted, may_come};
+ghost use Rattle.wf_semantics.specs.Shown.{HasSorts};
 ghost use Rattle.wf_central.specs.Kept.{central_of, IsOf, notes_of};
+ghost use Rattle.wf_central.specs.Made.{MakesStep};
 
-use crate::{StepNotes, passes, start};
+use crate::passes::{self, AfterStep};
+use crate::snapshot::{self, StepSnapshot};
+use crate::{StepNotes, outputs, start};
 use std::alloc::Global;
 use std::marker::Model;
+use wf_activities::{AllItems, done_in};
 use wf_model::{
-    Chart, Checked, Entry, EventId, List, NoMemory, Outer, OuterFault, StateId, UnitId,
+    Chart, Checked, Entry, EventId, List, NoMemory, Outer, OuterFault, StateId, UnitId, Val, VarId,
 };
 use wf_scopes::Scopes;
 
-/// The state of a plain chart after so many steps.
+/// The state of a chart after so many steps: the states that are in, the values of the variables, the events raised in the
+/// last step, and the items of each unit.
 #[derive(Debug, Drop)]
 pub struct CentralState {
     active: List<bool>,
+    store: List<Val>,
     raised: List<EventId>,
+    items: AllItems,
     taken: u32,
     scopes: Scopes,
 }
@@ -30,21 +38,24 @@ impl Model for CentralState {
 
     ghost Value = { Kept };
 
-    ghost view = { λ c. record { active = c.active; raised = c.raised; taken = c.taken; tables = c.scopes } };
+    ghost view = { λ c. record { active = c.active; store = c.store; raised = c.raised; items = c.items; taken = c.taken; tables = c.scopes } };
 }
 
 impl CentralState {
     /// The state before the first step. Works out the tables of the chart, once.
     pub fn first(alloc: Global, checked: &Checked) -> Result<CentralState, NoMemory>
-        requires plain { IsTrue (is_plain checked.now) }
         ensures state { IfOk result (λ c. central_of checked.now c ≡ first_state checked.now) }
         ensures of { IfOk result (λ c. IsOf checked.now c) }
     {
         let active = start::default_bits(alloc, checked.chart())?;
+        let store = start::first_values(alloc, checked.chart())?;
+        let items = AllItems::of(alloc, checked)?;
         let scopes = Scopes::of(alloc, checked)?;
         Ok(CentralState {
             active,
+            store,
             raised: List::new(alloc),
+            items,
             taken: 0,
             scopes,
         })
@@ -54,9 +65,16 @@ impl CentralState {
     pub fn is_in(&self, s: StateId) -> bool
         ensures { (chart : AnyChart) → IsOf chart self.now → s.0 < length chart.states → result ≡ is_in s.0 (central_of chart self.now).configuration }
     {
-        match self.active.get(s.0 as usize) {
-            Some(is_in) => *is_in,
-            None => false,
+        snapshot::is_set(self.active.as_slice(), s.0 as usize)
+    }
+
+    /// The value of a variable of the chart. A number that no variable has counts as a variable that is false. Takes no memory.
+    pub fn var(&self, v: VarId) -> Val
+        ensures { (chart : AnyChart) → IsOf chart self.now → v.0 < length chart.vars → slice_get (central_of chart self.now).store v.0 ≡ Some result }
+    {
+        match self.store.get(v.0 as usize) {
+            Some(val) => *val,
+            None => Val::Bool(false),
         }
     }
 
@@ -74,7 +92,10 @@ impl CentralState {
         self.taken
     }
 
-    /// Whether a unit may admit an outer, or why not. Takes no memory.
+    /// Whether a unit may admit an outer where these entries are pending, or why not: `WrongUnit` where the event or the
+    /// activity isn't at the unit, else `NoItem` where the unit has no item of this number and activity, else `AlreadyDone`
+    /// where the item is closed or a pending entry completes it, else `WrongOutput` where the outputs aren't one value of the
+    /// right sort for each output of the activity, in order. Grows with the pending entries and the outputs. Takes no memory.
     pub fn may_admit(
         &self,
         checked: &Checked,
@@ -82,62 +103,68 @@ impl CentralState {
         unit: UnitId,
         outer: &Outer,
     ) -> Result<(), OuterFault>
-        requires plain { IsTrue (is_plain checked.now) }
+        requires { IsOf checked.now self.now }
         ensures { result ≡ may_be_admitted checked.now (central_of checked.now self.now) pending.now unit.0 outer.now }
     {
-        match outer {
-            Outer::Happen(event) => {
-                if is_event_at(checked.chart(), unit, *event) {
-                    Ok(())
-                } else {
-                    Err(OuterFault::WrongUnit)
-                }
-            }
-            Outer::Complete { .. } => Err(OuterFault::WrongUnit),
-        }
+        self.items.may_admit(checked.chart(), pending, unit, outer)
     }
 
-    /// Takes one step, in which these outers come. Grows with the states times their depth, and with the transitions, each
-    /// of those whose source is in times the outers. After `NoMemory` the state is as before.
+    /// Takes one step, in which these entries come: each of them may be admitted where those before it are pending. Grows with
+    /// the states times their depth, the transitions, the nodes of the guards that are looked at and of the assigned values,
+    /// the actions that fire, the variables, the outputs, the events times the entries, the activities, and the units times
+    /// the starts times a unit's activities; not with the items. After `NoMemory` the state is as before.
     pub fn step(
         &mut self,
         alloc: Global,
         checked: &Checked,
         outer: &[Entry],
     ) -> Result<StepNotes, NoMemory>
-        requires plain { IsTrue (is_plain checked.now) }
         requires of { IsOf checked.now self.old }
         requires few { self.old.taken < MAX_STEPS }
+        requires come { IsTrue (may_come checked.now (central_of checked.now self.old) outer.now) }
         ensures state { OnOk result (central_of checked.now self.new ≡ next_state checked.now (central_of checked.now self.old) outer.now) }
         ensures notes { IfOk result (λ notes. notes ≡ notes_of checked.now (central_of checked.now self.old) outer.now) }
         ensures of { IsOf checked.now self.new }
         ensures taken { OnOk result (self.new.taken ≡ self.old.taken + 1) }
         ensures err { OnErr result (self.new ≡ self.old) }
     {
-        let passed = passes::pass_all(
+        let chart = checked.chart();
+        let after = self.passed(alloc, chart, outer)?;
+        let starts = self.items.take_step(
             alloc,
-            checked.chart(),
-            &self.scopes,
-            self.active.as_slice(),
+            chart,
             outer,
+            self.taken + 1,
+            after.starts.as_slice(),
         )?;
-        self.active = passed.active;
+        self.active = after.active;
+        self.store = after.store;
+        self.raised = after.raised;
         self.taken += 1;
         Ok(StepNotes {
-            fired: passed.fired,
-            starts: List::new(alloc),
+            fired: after.fired,
+            starts,
         })
     }
-}
 
-fn is_event_at(chart: &Chart, unit: UnitId, event: EventId) -> bool
-    ensures { result ≡ is_event_at chart.now unit.0 event.0 }
-{
-    match chart.events.get(event.0 as usize) {
-        Some(event) => match event.unit {
-            Some(at) => at.0 == unit.0,
-            None => false,
-        },
-        None => false,
+    // What the step makes in which these entries come, but for the items.
+    fn passed(&self, alloc: Global, chart: &Chart, outer: &[Entry]) -> Result<AfterStep, NoMemory>
+        requires accepted { IsAccepted chart.now }
+        requires of { IsOf chart.now self.now }
+        requires come { IsTrue (may_come chart.now (central_of chart.now self.now) outer.now) }
+        ensures step { IfOk result (MakesStep chart.now (central_of chart.now self.now) outer.now) }
+        ensures sorts { IfOk result (λ after. HasSorts chart.now after.store) }
+    {
+        let there = passes::there(alloc, chart, self.raised.as_slice(), outer)?;
+        let store = outputs::store_then(alloc, self.store.as_slice(), outer)?;
+        let counts = self.items.open_then(alloc, chart, outer)?;
+        let dones = done_in(alloc, chart, outer)?;
+        let snap = StepSnapshot {
+            active: self.active.as_slice(),
+            store: store.as_slice(),
+            counts: counts.as_slice(),
+            dones: dones.as_slice(),
+        };
+        passes::pass_all(alloc, chart, &self.scopes, &snap, there.as_slice())
     }
 }

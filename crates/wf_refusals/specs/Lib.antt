@@ -2,3 +2,4 @@ pub mod Lines
 pub mod TextFaults
 pub mod CheckFaults
 pub mod Accepted
+pub mod Scripts

@@ -1,9 +1,10 @@
 //! That a chart is accepted.
-ghost use Rattle.std.specs.Prelude.{◌≡◌, ◌++◌, OnOk};
+ghost use Rattle.std.specs.Prelude.{◌≡◌, ◌++◌, IfOk, OnOk};
 ghost use Rattle.std.specs.Fmt.{decimal};
 ghost use Rattle.wf_refusals.specs.Accepted as spec;
 
-use wf_model::{Bytes, Chart, NoMemory};
+use std::alloc::Global;
+use wf_model::{Bytes, Chart, List, NoMemory};
 use wf_words::append_number;
 
 // Appends a word and a number behind it.
@@ -30,9 +31,8 @@ fn append_drawn(text: &mut Bytes, chart: &Chart) -> Result<(), NoMemory>
     append_count(text, b" transitions ", chart.transitions.len())
 }
 
-/// Appends the line of an accepted chart: its name, and how many it has of each kind.
 #[tactic(auto, unfolding(crate::specs::Accepted::accepted_line))]
-pub fn append_accepted(text: &mut Bytes, chart: &Chart) -> Result<(), NoMemory>
+fn append_accepted(text: &mut Bytes, chart: &Chart) -> Result<(), NoMemory>
     ensures { OnOk result (text.new ≡ text.old ++ spec.accepted_line chart.now) }
 {
     text.append(b"accepted ")?;
@@ -40,4 +40,13 @@ pub fn append_accepted(text: &mut Bytes, chart: &Chart) -> Result<(), NoMemory>
     append_declared(text, chart)?;
     append_drawn(text, chart)?;
     text.append(b"\n")
+}
+
+/// The line of an accepted chart: its name, and how many it has of each kind, `fault` among the events.
+pub fn accepted_line(alloc: Global, chart: &Chart) -> Result<Bytes, NoMemory>
+    ensures { IfOk result (λ line. line ≡ spec.accepted_line chart.now) }
+{
+    let mut line = List::new(alloc);
+    append_accepted(&mut line, chart)?;
+    Ok(line)
 }

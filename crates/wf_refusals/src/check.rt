@@ -1,11 +1,12 @@
 //! Why a chart isn't accepted.
-ghost use Rattle.std.specs.Prelude.{◌≡◌, ◌++◌, OnOk};
+ghost use Rattle.std.specs.Prelude.{◌≡◌, ◌++◌, IfOk, OnOk};
 ghost use Rattle.std.specs.Fmt.{decimal};
 ghost use lib.Chars.{codes};
 ghost use Rattle.wf_refusals.specs.CheckFaults as spec;
 
+use std::alloc::Global;
 use wf_check::{CheckFault, TypePlace, What};
-use wf_model::{Bytes, Chart, NoMemory, TransId};
+use wf_model::{Bytes, Chart, List, NoMemory, TransId};
 use wf_words::{act_name, append_number, state_name, var_name};
 
 #[tactic(auto, unfolding(crate::specs::CheckFaults::what_word))]
@@ -103,13 +104,8 @@ fn append_type(text: &mut Bytes, chart: &Chart, place: TypePlace) -> Result<(), 
     }
 }
 
-/// Appends the line of the rule that a chart breaks, with the names that it has there; nothing for want of memory.
 #[tactic(auto, unfolding(crate::specs::CheckFaults::check_fault_line))]
-pub fn append_check_fault(
-    text: &mut Bytes,
-    chart: &Chart,
-    fault: CheckFault,
-) -> Result<(), NoMemory>
+fn append_check_fault(text: &mut Bytes, chart: &Chart, fault: CheckFault) -> Result<(), NoMemory>
     ensures { OnOk result (text.new ≡ text.old ++ spec.check_fault_line chart.now fault) }
 {
     match fault {
@@ -138,4 +134,14 @@ pub fn append_check_fault(
         CheckFault::TargetRoot { t } => append_transition(text, b"t", t, b" enters the root"),
         CheckFault::NoMemory => Ok(()),
     }
+}
+
+/// The line of the rule that a chart breaks, with the names that it has there. Of want of memory there is no line: it is
+/// empty then.
+pub fn check_fault_line(alloc: Global, chart: &Chart, fault: CheckFault) -> Result<Bytes, NoMemory>
+    ensures { IfOk result (λ line. line ≡ spec.check_fault_line chart.now fault) }
+{
+    let mut line = List::new(alloc);
+    append_check_fault(&mut line, chart, fault)?;
+    Ok(line)
 }

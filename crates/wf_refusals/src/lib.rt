@@ -1,10 +1,12 @@
-//! The lines on charts: that one is accepted, or why it is refused.
+//! The lines on charts and scripts: that a chart is accepted, or why one is refused.
 #![tactic(auto)]
 
 mod accepted;
 mod check;
+mod script;
 mod text;
 
-pub use accepted::append_accepted;
-pub use check::append_check_fault;
-pub use text::append_text_fault;
+pub use accepted::accepted_line;
+pub use check::check_fault_line;
+pub use script::{script_line, too_long_report, too_many_lines};
+pub use text::text_fault_line;

@@ -1,10 +1,11 @@
 //! Why a text means no chart.
-ghost use Rattle.std.specs.Prelude.{◌≡◌, ◌++◌, OnOk};
+ghost use Rattle.std.specs.Prelude.{◌≡◌, ◌++◌, IfOk, OnOk};
 ghost use lib.Chars.{codes};
 ghost use Rattle.wf_refusals.specs.TextFaults as spec;
 ghost use Rattle.wf_refusals.specs.Lines.{refusal};
 
-use wf_model::{Bytes, NoMemory};
+use std::alloc::Global;
+use wf_model::{Bytes, List, NoMemory};
 use wf_text::ChartFault;
 use wf_words::append_number;
 
@@ -26,9 +27,8 @@ fn append_placed(text: &mut Bytes, line: u32, col: u32, what: &[u8]) -> Result<(
     text.append(b"\n")
 }
 
-/// Appends the line of a fault, with its line and its column; nothing for want of memory.
 #[tactic(auto, unfolding(crate::specs::TextFaults::text_fault_line))]
-pub fn append_text_fault(text: &mut Bytes, fault: ChartFault) -> Result<(), NoMemory>
+fn append_text_fault(text: &mut Bytes, fault: ChartFault) -> Result<(), NoMemory>
     ensures { OnOk result (text.new ≡ text.old ++ spec.text_fault_line fault) }
 {
     match fault {
@@ -45,4 +45,13 @@ pub fn append_text_fault(text: &mut Bytes, fault: ChartFault) -> Result<(), NoMe
         ChartFault::Oversize { line, col } => append_placed(text, line, col, b" oversize"),
         ChartFault::NoMemory => Ok(()),
     }
+}
+
+/// The line of a fault, with its line and its column. Of want of memory there is no line: it is empty then.
+pub fn text_fault_line(alloc: Global, fault: ChartFault) -> Result<Bytes, NoMemory>
+    ensures { IfOk result (λ line. line ≡ spec.text_fault_line fault) }
+{
+    let mut line = List::new(alloc);
+    append_text_fault(&mut line, fault)?;
+    Ok(line)
 }

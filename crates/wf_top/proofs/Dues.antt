@@ -1,19 +1,26 @@
 -- What is due, and that a run which writes it may end so.
-use Rattle.std.proofs.Common.{◌≡◌, ◌⊎◌, ◌≤◌, ◌<◌, ◌∙◌, ℕ, ◌++◌, List, true, false, nat_le, length, take, Option, Some, None, Result, Ok, Err, IfSome, refl, sym, ap, subst, inl, inr, arith, append-nil}
+use Rattle.std.proofs.Common.{◌≡◌, ◌⊎◌, ◌≤◌, ◌<◌, ◌∙◌, ℕ, ◌++◌, Bool, if◌then◌else◌, List, true, false, nat_le, length, take, Option, Some, None, Result, Ok, Err, IfSome, refl, sym, ap, subst, inl, inr, arith, append-nil}
 use Rattle.std.proofs.lemmas.Bool.Decides.{nat_tests}
 use Rattle.std.specs.Io.KnownBytes.{Appends, Consumes, IsAtEnd}
 use lib.Chars.{codes}
-use Rattle.wf_model.specs.declared.limits.TheConstants.{MAX_INPUT}
+use Rattle.wf_model.specs.declared.limits.TheConstants.{MAX_INPUT, MAX_LINES, MAX_REPORT}
 use Rattle.wf_model.specs.declared.status.Status.{Status}
 use Rattle.wf_model.specs.declared.status.Status.TheVariants as status
 use Rattle.wf_io.specs.Causes.{Rose}
 use Rattle.wf_model.specs.declared.chart.Chart.{Chart}
 use Rattle.wf_refusals.specs.Lines.{refusal}
-use Rattle.wf_audit.specs.Lines.{chart_part, script_part}
+use Rattle.wf_refusals.specs.Scripts.{too_many_lines, too_long_report}
+use Rattle.wf_audit.specs.declared.script.CentralLine.{CentralLine}
+use Rattle.wf_audit.specs.declared.script.ScriptFault.{ScriptFault}
+use Rattle.wf_audit.specs.declared.script.ScriptFault.TheVariants as script
+use Rattle.wf_audit.specs.Lines.{lines_of, chart_part, script_part}
+use Rattle.wf_audit.specs.Script.{script_of}
+use Rattle.wf_audit.specs.CentralText.{central_text}
+use Rattle.wf_audit.proofs.Counted.{IsNamed, script_named}
 use Rattle.wf_top.specs.declared.command.Command.{Command}
 use Rattle.wf_top.specs.declared.command.Command.TheVariants.{Check, Central}
 use Rattle.wf_top.specs.declared.answer.Answer.{Answer}
-use Rattle.wf_top.specs.Answers.{answer, answer_of, answer_within, chart_answer, run_answer, run_in, chart_in}
+use Rattle.wf_top.specs.Answers.{answer, answer_of, answer_within, chart_answer, central_answer, lines_answer, chart_in}
 use Rattle.wf_top.specs.Top.{Ends, Answers, IsDue, MayAnswer}
 
 -- the text was written whole, or a write failed behind a front part
@@ -29,10 +36,10 @@ whole words before after status.Words text due wrote same = record { text = text
 whole words before after status.ChartRefused text due wrote same = record { text = text; due = due; written = wrote; faults = same }
 whole words before after status.ReadFault text due wrote same = record { text = text; due = due; written = wrote; faults = same }
 whole words before after status.Limit text due wrote same = record { text = text; due = due; written = wrote; faults = same }
-whole words before after status.Unbuilt text due wrote same = record { text = text; due = due; written = wrote; faults = same }
+whole words before after status.ScriptRefused text due wrote same = record { text = text; due = due; written = wrote; faults = same }
 whole words before after status.WriteFault text due wrote same = absurd due
 whole words before after status.NoMemory text due wrote same = absurd due
-whole words before after status.ScriptRefused text due wrote same = absurd due
+whole words before after status.Unbuilt text due wrote same = absurd due
 whole words before after status.DiskFault text due wrote same = absurd due
 whole words before after status.Journals text due wrote same = absurd due
 
@@ -47,17 +54,30 @@ finished words before after s text result due (inr (is, same, wrote)) = subst (M
 abbrev pub IsAnswered : Status → Type 0
 IsAnswered status.Ok = Unit {0}
 IsAnswered status.ChartRefused = Unit {0}
-IsAnswered status.Unbuilt = Unit {0}
+IsAnswered status.ScriptRefused = Unit {0}
+IsAnswered status.Limit = Unit {0}
 IsAnswered _ = ⊥
 
-run_answered : (found : Option (List ℕ)) → IsAnswered (run_answer found).status
-run_answered None = tt
-run_answered (Some text) = tt
+either_answered : (few : Bool) (a b : Answer) → IsAnswered a.status → IsAnswered b.status → IsAnswered (if few then a else b).status
+either_answered true a b first second = first
+either_answered false a b first second = second
+
+lines_answered : (chart : Chart) (found : Result (List (ℕ × CentralLine)) ScriptFault) → IsNamed found → IsAnswered (lines_answer chart found).status
+lines_answered chart (Ok lines) named =
+    either_answered (nat_le (length (central_text chart lines)) MAX_REPORT) (answer status.Ok (central_text chart lines)) (answer status.Limit too_long_report) tt tt
+lines_answered chart (Err (script.Refused line)) named = tt
+lines_answered chart (Err script.NoMemory) named = absurd named
+
+central_answered : (chart : Chart) (script : List ℕ) → IsAnswered (central_answer chart script).status
+unfolding central_answer
+central_answered chart script =
+    either_answered (nat_le (length (lines_of script)) MAX_LINES) (lines_answer chart (script_of chart script)) (answer status.Limit too_many_lines)
+    (lines_answered chart (script_of chart script) (script_named chart script)) tt
 
 chart_answered : (command : Command) (script : List ℕ) (found : Result Chart (List ℕ)) → IsAnswered (chart_answer command script found).status
 chart_answered command script (Err line) = tt
 chart_answered Check script (Ok chart) = tt
-chart_answered Central script (Ok chart) = run_answered (run_in chart script)
+chart_answered Central script (Ok chart) = central_answered chart script
 
 within_answered : (command : Command) (input : List ℕ) → IsAnswered (answer_within command input).status
 unfolding answer_within
@@ -68,13 +88,13 @@ due_answer : (words : List (List ℕ)) (before after : Ends) (s : Status) (text 
     → IsAtEnd after.left → IsDue words before after s text
 due_answer words before after status.Ok text is a end = (a, end)
 due_answer words before after status.ChartRefused text is a end = (a, end)
-due_answer words before after status.Unbuilt text is a end = (a, end)
-due_answer words before after status.Limit text is a end = absurd is
+due_answer words before after status.ScriptRefused text is a end = (a, end)
+due_answer words before after status.Limit text is a end = (a, inr end)
 due_answer words before after status.Words text is a end = absurd is
 due_answer words before after status.ReadFault text is a end = absurd is
 due_answer words before after status.WriteFault text is a end = absurd is
 due_answer words before after status.NoMemory text is a end = absurd is
-due_answer words before after status.ScriptRefused text is a end = absurd is
+due_answer words before after status.Unbuilt text is a end = absurd is
 due_answer words before after status.DiskFault text is a end = absurd is
 due_answer words before after status.Journals text is a end = absurd is
 

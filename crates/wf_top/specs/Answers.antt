@@ -1,14 +1,11 @@
 -- What the program has to answer: a status, and a text.
-use Rattle.std.specs.Prelude.{ℕ, List, [], ◌∷◌, Bool, nat_le, length, Option, Some, None, Result, Ok, Err, if◌then◌else◌}
+use Rattle.std.specs.Prelude.{ℕ, List, [], ◌∷◌, nat_le, length, Option, Some, None, Result, Ok, Err, if◌then◌else◌}
 use Rattle.std.specs.Str.{bytes_eq}
-use Rattle.std.specs.Option.{option_map, option_and_then}
-use Rattle.std.specs.Result.{result_ok}
 use lib.Chars.{codes}
-use Rattle.wf_model.specs.declared.limits.TheConstants.{MAX_INPUT}
+use Rattle.wf_model.specs.declared.limits.TheConstants.{MAX_INPUT, MAX_LINES, MAX_REPORT}
 use Rattle.wf_model.specs.declared.chart.Chart.{Chart}
 use Rattle.wf_model.specs.declared.status.Status.{Status}
 use Rattle.wf_model.specs.declared.status.Status.TheVariants as status
-use Rattle.wf_central.specs.Plain.{is_plain}
 use Rattle.wf_text.specs.declared.chart_fault.ChartFault.{ChartFault}
 use Rattle.wf_text.specs.Text.{chart_of}
 use Rattle.wf_check.specs.declared.fault.CheckFault.{CheckFault}
@@ -17,11 +14,13 @@ use Rattle.wf_refusals.specs.Lines.{refusal}
 use Rattle.wf_refusals.specs.TextFaults.{text_fault_line}
 use Rattle.wf_refusals.specs.CheckFaults.{check_fault_line}
 use Rattle.wf_refusals.specs.Accepted.{accepted_line}
+use Rattle.wf_refusals.specs.Scripts.{script_line, too_many_lines, too_long_report}
 use Rattle.wf_audit.specs.declared.script.CentralLine.{CentralLine}
-use Rattle.wf_audit.specs.Lines.{chart_part, script_part}
+use Rattle.wf_audit.specs.declared.script.ScriptFault.{ScriptFault}
+use Rattle.wf_audit.specs.declared.script.ScriptFault.TheVariants as script
+use Rattle.wf_audit.specs.Lines.{lines_of, chart_part, script_part}
 use Rattle.wf_audit.specs.Script.{script_of}
 use Rattle.wf_audit.specs.CentralText.{central_text}
-use Rattle.wf_audit.specs.declared.central.TheConstants.{MAX_PLAIN_LINES}
 use Rattle.wf_top.specs.declared.command.Command.{Command}
 use Rattle.wf_top.specs.declared.command.Command.TheVariants.{Check, Central}
 use Rattle.wf_top.specs.declared.answer.Answer.{Answer}
@@ -52,32 +51,30 @@ chart_from (Err fault) = Err (text_fault_line fault)
 unfoldable pub chart_in : List ℕ → Result Chart (List ℕ)
 chart_in text = chart_from (chart_of text)
 
--- ---- central runs
-
-abbrev pub if_few : List (Option CentralLine) → Option (List (Option CentralLine))
-if_few lines = if nat_le (length lines) MAX_PLAIN_LINES then Some lines else None
-
--- the lines of the script, where all are in the grammar and there are few enough
-abbrev pub lines_in : Chart → List ℕ → Option (List (Option CentralLine))
-lines_in chart script = option_and_then if_few (result_ok (script_of chart script))
-
--- the text of the central run, where the chart is plain and there are such lines
-unfoldable pub run_in : Chart → List ℕ → Option (List ℕ)
-run_in chart script = if is_plain chart then option_map (central_text chart) (lines_in chart script) else None
-
 -- ---- answers
 
 abbrev pub answer : Status → List ℕ → Answer
 answer s text = record { status = s; text = text }
 
-abbrev pub run_answer : Option (List ℕ) → Answer
-run_answer None = answer status.Unbuilt (refusal (codes "unbuilt"))
-run_answer (Some text) = answer status.Ok text
+-- the text of a run, unless it is too long
+abbrev pub run_answer : List ℕ → Answer
+run_answer text = if nat_le (length text) MAX_REPORT then answer status.Ok text else answer status.Limit too_long_report
+
+-- the run of a script's lines, or the first line outside the grammar; for want of memory there is none
+abbrev pub lines_answer : Chart → Result (List (ℕ × CentralLine)) ScriptFault → Answer
+lines_answer chart (Ok lines) = run_answer (central_text chart lines)
+lines_answer chart (Err (script.Refused line)) = answer status.ScriptRefused (script_line line)
+lines_answer chart (Err script.NoMemory) = answer status.NoMemory []
+
+-- the answer to a script, unless it has too many lines
+unfoldable pub central_answer : Chart → List ℕ → Answer
+central_answer chart script =
+    if nat_le (length (lines_of script)) MAX_LINES then lines_answer chart (script_of chart script) else answer status.Limit too_many_lines
 
 abbrev pub chart_answer : Command → List ℕ → Result Chart (List ℕ) → Answer
 chart_answer command script (Err line) = answer status.ChartRefused line
 chart_answer Check script (Ok chart) = answer status.Ok (accepted_line chart)
-chart_answer Central script (Ok chart) = run_answer (run_in chart script)
+chart_answer Central script (Ok chart) = central_answer chart script
 
 -- the answer to an input that isn't too long: its chart, then what the command does with it
 unfoldable pub answer_within : Command → List ℕ → Answer

@@ -1,5 +1,5 @@
 -- Which status the program may end with, and what it has written then.
-use Rattle.std.specs.Prelude.{◌≡◌, ◌≤◌, ℕ, List, None, Some, length, take, Option, IfSome}
+use Rattle.std.specs.Prelude.{◌≡◌, ◌≤◌, ◌⊎◌, ℕ, List, None, Some, length, take, Option, IfSome}
 use Rattle.std.specs.Io.KnownBytes.{Appends, Keeps, IsAtEnd}
 use lib.Chars.{codes}
 use Rattle.wf_model.specs.declared.status.Status.{Status}
@@ -36,17 +36,18 @@ pub record IsUnreadable (words : List (List ℕ)) (before after : Ends) : Type 0
   pub named : command_of words ≡ Some command
   pub faults : Rose before.read_faults after.read_faults
 
--- this status with this text is due, by the words, by the bytes that the source had left, and by whether a read failed
+-- This status with this text is due, by the words, by the bytes that the source had left, and by whether a read failed. An
+-- answer to them is due once the source is read to its end; that they are too many may be found before.
 abbrev pub IsDue : List (List ℕ) → Ends → Ends → Status → List ℕ → Type 0
 IsDue words before after status.Ok text = Answers words before after (answer status.Ok text) × IsAtEnd after.left
 IsDue words before after status.ChartRefused text = Answers words before after (answer status.ChartRefused text) × IsAtEnd after.left
-IsDue words before after status.Unbuilt text = Answers words before after (answer status.Unbuilt text) × IsAtEnd after.left
-IsDue words before after status.Limit text = Answers words before after (answer status.Limit text)
+IsDue words before after status.ScriptRefused text = Answers words before after (answer status.ScriptRefused text) × IsAtEnd after.left
+IsDue words before after status.Limit text = Answers words before after (answer status.Limit text) × ((text ≡ refusal (codes "limit input")) ⊎ IsAtEnd after.left)
 IsDue words before after status.Words text = (command_of words ≡ None) × IsUnread before after × (text ≡ refusal (codes "words"))
 IsDue words before after status.ReadFault text = IsUnreadable words before after × (text ≡ refusal (codes "read"))
 IsDue words before after status.WriteFault text = ⊥
 IsDue words before after status.NoMemory text = ⊥
-IsDue words before after status.ScriptRefused text = ⊥
+IsDue words before after status.Unbuilt text = ⊥
 IsDue words before after status.DiskFault text = ⊥
 IsDue words before after status.Journals text = ⊥
 
@@ -76,7 +77,7 @@ MayAnswer words before after status.Words = IsWritten words before after status.
 MayAnswer words before after status.ChartRefused = IsWritten words before after status.ChartRefused
 MayAnswer words before after status.ReadFault = IsWritten words before after status.ReadFault
 MayAnswer words before after status.Limit = IsWritten words before after status.Limit
-MayAnswer words before after status.Unbuilt = IsWritten words before after status.Unbuilt
-MayAnswer words before after status.ScriptRefused = ⊥
+MayAnswer words before after status.ScriptRefused = IsWritten words before after status.ScriptRefused
+MayAnswer words before after status.Unbuilt = ⊥
 MayAnswer words before after status.DiskFault = ⊥
 MayAnswer words before after status.Journals = ⊥

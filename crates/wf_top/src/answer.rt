@@ -4,13 +4,13 @@ ghost use Rattle.wf_model.specs.declared.limits.TheConstants.{MAX_INPUT};
 ghost use Rattle.wf_refusals.specs.Accepted.{accepted_line};
 ghost use Rattle.wf_top.specs.Answers as spec;
 
-use crate::central::run_in;
+use crate::central::central;
 use crate::charts::chart_in;
 use crate::command::Command;
 use std::alloc::Global;
 use wf_audit::divide;
-use wf_model::{Bytes, Checked, List, NoMemory, Status};
-use wf_refusals::append_accepted;
+use wf_model::{Bytes, Checked, NoMemory, Status};
+use wf_refusals::accepted_line;
 
 /// How a run ends, and what it writes.
 #[derive(Drop)]
@@ -22,34 +22,10 @@ pub struct Answer {
 fn accepted(alloc: Global, chart: &Checked) -> Result<Answer, NoMemory>
     ensures { IfOk result (λ a. a ≡ spec.answer Status.Ok (accepted_line chart.now)) }
 {
-    let mut text = List::new(alloc);
-    append_accepted(&mut text, chart.chart())?;
     Ok(Answer {
         status: Status::Ok,
-        text,
+        text: accepted_line(alloc, chart.chart())?,
     })
-}
-
-fn unbuilt(alloc: Global) -> Result<Answer, NoMemory>
-    ensures { IfOk result (λ a. a ≡ spec.run_answer None) }
-{
-    Ok(Answer {
-        status: Status::Unbuilt,
-        text: List::from_slice(alloc, b"refused unbuilt\n")?,
-    })
-}
-
-fn central(alloc: Global, chart: &Checked, script: &[u8]) -> Result<Answer, NoMemory>
-    requires { length script.now ≤ MAX_INPUT }
-    ensures { IfOk result (λ a. a ≡ spec.run_answer (spec.run_in chart.now script.now)) }
-{
-    match run_in(alloc, chart, script)? {
-        Some(text) => Ok(Answer {
-            status: Status::Ok,
-            text,
-        }),
-        None => unbuilt(alloc),
-    }
 }
 
 /// The answer of a command to an input.

@@ -1,55 +1,65 @@
 //! The command `central`.
-ghost use Rattle.std.specs.Prelude.{◌≡◌, ◌≤◌, length, IsTrue, IfOk};
-ghost use Rattle.std.specs.Option.{option_map};
-ghost use Rattle.wf_central.specs.Plain.{is_plain};
+ghost use Rattle.std.specs.Prelude.{◌≡◌, ◌≤◌, length, IfOk};
 ghost use Rattle.wf_audit.specs.CentralText.{central_text};
+ghost use Rattle.wf_audit.specs.Lines.{lines_of};
+ghost use Rattle.wf_audit.specs.Script.{script_of};
 ghost use Rattle.wf_top.specs.Answers as spec;
 
+use crate::answer::Answer;
 use std::alloc::Global;
-use wf_audit::{CentralLine, MAX_PLAIN_LINES, ScriptFault, read_central, run_central};
-use wf_central::is_plain;
-use wf_model::limits::MAX_INPUT;
-use wf_model::{Bytes, Checked, List, NoMemory};
+use wf_audit::{CentralLine, RunFault, ScriptFault, line_count, read_central, run_central};
+use wf_model::limits::{MAX_INPUT, MAX_LINES};
+use wf_model::{Checked, NoMemory, Status};
+use wf_refusals::{script_line, too_long_report, too_many_lines};
 
-// The lines of the script, where all are in the grammar and there are few enough.
-fn lines_in(
-    alloc: Global,
-    chart: &Checked,
-    script: &[u8],
-) -> Result<Option<List<Option<CentralLine>>>, NoMemory>
-    requires { length script.now ≤ MAX_INPUT }
-    ensures { IfOk result (λ lines. lines ≡ spec.lines_in chart.now script.now) }
+// The answer of a run of these lines.
+fn run(alloc: Global, chart: &Checked, lines: &[(u32, CentralLine)]) -> Result<Answer, NoMemory>
+    requires { length lines.now ≤ MAX_LINES }
+    ensures { IfOk result (λ a. a ≡ spec.run_answer (central_text chart.now lines.now)) }
+{
+    match run_central(alloc, chart, lines) {
+        Ok(text) => Ok(Answer {
+            status: Status::Ok,
+            text,
+        }),
+        Err(RunFault::TooLong) => Ok(Answer {
+            status: Status::Limit,
+            text: too_long_report(alloc)?,
+        }),
+        Err(RunFault::NoMemory) => Err(NoMemory),
+    }
+}
+
+// The answer to a script of few enough lines.
+fn answer_lines(alloc: Global, chart: &Checked, script: &[u8]) -> Result<Answer, NoMemory>
+    requires within { length script.now ≤ MAX_INPUT }
+    requires few { length (lines_of script.now) ≤ MAX_LINES }
+    ensures { IfOk result (λ a. a ≡ spec.lines_answer chart.now (script_of chart.now script.now)) }
 {
     match read_central(alloc, chart.chart(), script) {
-        Ok(lines) if lines.len() <= MAX_PLAIN_LINES => Ok(Some(lines)),
-        Ok(_) => Ok(None),
+        Ok(lines) => run(alloc, chart, lines.as_slice()),
+        Err(ScriptFault::Refused { line }) => Ok(Answer {
+            status: Status::ScriptRefused,
+            text: script_line(alloc, line)?,
+        }),
         Err(ScriptFault::NoMemory) => Err(NoMemory),
-        Err(ScriptFault::Refused { .. }) => Ok(None),
     }
 }
 
-// The text of the central run of a plain chart, where there are such lines.
-fn text_in(alloc: Global, chart: &Checked, script: &[u8]) -> Result<Option<Bytes>, NoMemory>
-    requires within { length script.now ≤ MAX_INPUT }
-    requires plain { IsTrue (is_plain chart.now) }
-    ensures { IfOk result (λ text. text ≡ option_map (central_text chart.now) (spec.lines_in chart.now script.now)) }
-{
-    match lines_in(alloc, chart, script)? {
-        Some(lines) => Ok(Some(run_central(alloc, chart, lines.as_slice())?)),
-        None => Ok(None),
-    }
-}
-
-/// The text of the central run of the script, where the chart is plain and the script has few lines, all in the grammar.
-/// None where it isn't so, and `NoMemory` where memory runs out.
-#[tactic(auto, unfolding(crate::specs::Answers::run_in))]
-pub fn run_in(alloc: Global, chart: &Checked, script: &[u8]) -> Result<Option<Bytes>, NoMemory>
+/// The answer to a script of the central run on this chart: the text of the run; or that there are more than `MAX_LINES`
+/// lines, which line is the first outside the grammar, or that the text has more than `MAX_REPORT` bytes, the first of
+/// these that holds.
+#[tactic(auto, unfolding(crate::specs::Answers::central_answer))]
+pub fn central(alloc: Global, chart: &Checked, script: &[u8]) -> Result<Answer, NoMemory>
     requires { length script.now ≤ MAX_INPUT }
-    ensures { IfOk result (λ text. text ≡ spec.run_in chart.now script.now) }
+    ensures { IfOk result (λ a. a ≡ spec.central_answer chart.now script.now) }
 {
-    if is_plain(chart.chart()) {
-        text_in(alloc, chart, script)
+    if line_count(script) <= MAX_LINES {
+        answer_lines(alloc, chart, script)
     } else {
-        Ok(None)
+        Ok(Answer {
+            status: Status::Limit,
+            text: too_many_lines(alloc)?,
+        })
     }
 }

@@ -2,23 +2,13 @@
 ghost use Rattle.std.specs.Prelude.{◌≡◌, ◌≤◌, length, IfOk};
 ghost use Rattle.wf_model.specs.declared.limits.TheConstants.{MAX_INPUT};
 ghost use Rattle.wf_check.specs.FirstFault.{first_fault};
-ghost use Rattle.wf_refusals.specs.TextFaults.{text_fault_line};
 ghost use Rattle.wf_top.specs.Answers as spec;
 
 use std::alloc::Global;
 use wf_check::first_fault;
-use wf_model::{Bytes, Chart, Checked, List, NoMemory};
-use wf_refusals::{append_check_fault, append_text_fault};
+use wf_model::{Bytes, Chart, Checked, NoMemory};
+use wf_refusals::{check_fault_line, text_fault_line};
 use wf_text::{ChartFault, read_chart};
-
-// The line of a text that means no chart.
-fn text_line(alloc: Global, fault: ChartFault) -> Result<Bytes, NoMemory>
-    ensures { IfOk result (λ line. line ≡ text_fault_line fault) }
-{
-    let mut line = List::new(alloc);
-    append_text_fault(&mut line, fault)?;
-    Ok(line)
-}
 
 // The chart, sealed, or the line of its first fault.
 #[tactic(auto, using(wf_check::proofs::Faultless::faultless))]
@@ -27,11 +17,7 @@ fn checked(alloc: Global, chart: Chart) -> Result<Result<Checked, Bytes>, NoMemo
 {
     match first_fault(alloc, &chart)? {
         None => Ok(Ok(Checked::seal(chart))),
-        Some(fault) => {
-            let mut line = List::new(alloc);
-            append_check_fault(&mut line, &chart, fault)?;
-            Ok(Err(line))
-        }
+        Some(fault) => Ok(Err(check_fault_line(alloc, &chart, fault)?)),
     }
 }
 
@@ -45,6 +31,6 @@ pub fn chart_in(alloc: Global, text: &[u8]) -> Result<Result<Checked, Bytes>, No
     match read_chart(alloc, text) {
         Ok(chart) => checked(alloc, chart),
         Err(ChartFault::NoMemory) => Err(NoMemory),
-        Err(fault) => Ok(Err(text_line(alloc, fault)?)),
+        Err(fault) => Ok(Err(text_fault_line(alloc, fault)?)),
     }
 }

@@ -1,9 +1,11 @@
-use Rattle.std.proofs.Common.{◌≡◌, ℕ, ◌<◌, true, length, take, slice_index}
-use Rattle.wf_activities.specs.UnitItems.{is_listed}
+use Rattle.std.proofs.Common.{◌≡◌, ℕ, ◌<◌, ◌≤◌, length, take, slice_index}
+use Rattle.std.specs.List.{All}
+use Rattle.wf_activities.specs.UnitItems.{listed}
 use Rattle.wf_activities.proofs.counts.widen.Given as goal
 
-abbrev pub invariant-loop-act : goal.invariant-loop-act
-invariant-loop-act l = record {
+abbrev pub invariant-loop-start : goal.invariant-loop-start
+invariant-loop-start l = record {
   same : (a : ℕ) → slice_index l.counts.items a ≡ slice_index l.initial.counts.items a;
-  wide : (a : ℕ) → is_listed (take l.act-index l.acts) a ≡ true → a < length l.counts.items;
+  longer : length l.initial.counts.items ≤ length l.counts.items;
+  wide : All (λ s. s.act.0 < length l.counts.items) (listed l.acts (take l.start-index l.starts));
 }

@@ -1,14 +1,13 @@
-use Rattle.std.proofs.Common.{◌≡◌, ◌++◌, ◌+◌, ◌≤◌, drop}
-use Rattle.wf_central.specs.Kept.{IsOf}
-use Rattle.wf_audit.specs.CentralText.{replies_from, first_standing}
-use Rattle.wf_audit.specs.Standings.{standing_of}
+use Rattle.std.proofs.Common.{◌≡◌, ◌++◌, ◌≤◌, length, drop}
+use Rattle.wf_model.specs.declared.limits.TheConstants.{MAX_REPORT}
+use Rattle.wf_audit.specs.CentralText.{replies_to, first_standing}
+use Rattle.wf_audit.specs.Standings.{standing_of, IsRun}
 use Rattle.wf_audit.proofs.central.run_central.Given as goal
 
-abbrev pub invariant-loop-said : goal.invariant-loop-said
-invariant-loop-said l = record {
-  text : l.text ++ replies_from l.checked (standing_of l.checked l.run) (l.number + 1) (drop l.said-index l.script)
-      ≡ replies_from l.checked (first_standing l.checked) 1 l.script;
-  of : IsOf l.checked l.run.central;
-  taken : l.run.central.taken ≤ l.number;
-  number : l.number ≡ l.said-index;
+abbrev pub invariant-loop-number : goal.invariant-loop-number
+invariant-loop-number l = record {
+  text : l.text ++ replies_to l.checked (standing_of l.checked l.run) (drop l.number-index l.script) ≡ replies_to l.checked (first_standing l.checked) l.script;
+  short : length l.text ≤ MAX_REPORT;
+  sound : IsRun l.checked l.run;
+  taken : l.run.central.taken ≤ l.number-index;
 }

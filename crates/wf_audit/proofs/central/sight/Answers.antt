@@ -4,5 +4,5 @@ use Rattle.wf_audit.proofs.central.sight.Goals as goal
 
 pub returns : goal.returns
 returns c =
-    sight_is c.args.chart.now c.args.central.now c.taken.result c.in_ok-states_in.field-0 c.new.result c.in_ok-from_slice.field-0
-    c.taken.ensures c.in_ok-states_in.ensures c.new.ensures (c.in_ok-from_slice.ensures ∙ c.raised.ensures)
+    sight_is c.args.chart.now c.args.central.now c.taken.result c.in_ok-states_in.field-0 c.in_ok-vars_of.field-0 c.in_ok-from_slice.field-0
+    c.taken.ensures c.in_ok-states_in.ensures c.in_ok-vars_of.ensures (c.in_ok-from_slice.ensures ∙ c.raised.ensures)

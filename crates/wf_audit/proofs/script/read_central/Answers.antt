@@ -1,32 +1,32 @@
-use Rattle.std.proofs.Common.{rules, arith, ◌≡◌, ◌≢◌, ◌+◌, [], List, Option, Result, Ok, Err, length, sym, ◌∙◌, ap, ap₂, subst}
+use Rattle.std.proofs.Common.{rules, arith, ◌≡◌, ◌≢◌, ◌+◌, ℕ, [], List, Result, Ok, Err, length, sym, ◌∙◌, ap, subst}
 use Rattle.wf_audit.specs.declared.script.CentralLine.{CentralLine}
 use Rattle.wf_audit.specs.declared.script.ScriptFault.{ScriptFault}
 use Rattle.wf_audit.specs.Lines.{lines_of}
-use Rattle.wf_audit.specs.Names.{found_in}
+use Rattle.wf_audit.specs.Finders.{finder_of}
+use Rattle.wf_audit.specs.Names.{Finder}
 use Rattle.wf_audit.specs.Script.{Gives, line_at, lines_from, script_of}
 use Rattle.wf_audit.proofs.Divided.{behind_line-shorter}
 use Rattle.wf_audit.proofs.Read.{gives_refused, read_more}
 use Rattle.wf_audit.proofs.script.read_central.Goals as goal
 
-pub returns-in_err-line_at : goal.returns-in_err-line_at
+pub returns-in_err-said : goal.returns-in_err-said
 unfolding script_of
-returns-in_err-line_at c =
+returns-in_err-said c =
     let some : c.loop-rest.rest.now ≢ [] = search rules in
-    let names = c.in_ok-names.ensures in
-    let same : c.from_residual-in_err-line_at.result ≡ Err c.in_err-line_at.field-0.0 = search rules in
-    subst (λ (r : Result (List (Option CentralLine)) ScriptFault). Gives r (script_of c.args.chart.now c.args.script.now)) (sym same)
-    (gives_refused (found_in c.in_ok-names.names.units) (found_in c.in_ok-names.names.events) (c.loop-rest.number + 1) c.loop-rest.lines c.loop-rest.rest.now c.split_line.result.0.now
-    c.in_err-line_at.field-0.0 (script_of c.args.chart.now c.args.script.now) some c.split_line.ensures.line
-    (c.loop-rest.invariant.read ∙ ap₂ (λ unit event. lines_from unit event 1 (lines_of c.args.script.now)) names.units names.events)
-    c.in_err-line_at.ensures)
+    let same : c.from_residual-in_err-said.result ≡ Err c.in_err-said.field-0.0 = search rules in
+    subst (λ (r : Result (List (ℕ × CentralLine)) ScriptFault). Gives r (script_of c.args.chart.now c.args.script.now)) (sym same)
+    (gives_refused (finder_of c.in_ok-names.names) (c.loop-rest.number + 1) c.loop-rest.lines c.loop-rest.rest.now c.split_line.result.0.now
+    c.in_err-said.field-0.0 (script_of c.args.chart.now c.args.script.now) some c.split_line.ensures.line
+    (c.loop-rest.invariant.read ∙ ap (λ (names : Finder). lines_from names 1 (lines_of c.args.script.now)) c.in_ok-names.ensures)
+    c.in_err-said.ensures)
 
 pub loop-rest-preserved : goal.loop-rest-preserved
 loop-rest-preserved c =
     let some : c.loop-rest.rest.now ≢ [] = search rules in
-    let said = subst (λ line. line_at (found_in c.in_ok-names.names.units) (found_in c.in_ok-names.names.events) (c.loop-rest.number + 1) line ≡ Ok c.in_ok-line_at.field-0) c.split_line.ensures.line c.in_ok-line_at.ensures in
+    let said = subst (λ line. line_at (finder_of c.in_ok-names.names) (c.loop-rest.number + 1) line ≡ Ok c.in_ok-said.said) c.split_line.ensures.line c.in_ok-said.ensures in
     record {
-      read = rw (c.in_ok-push.ensures.ok, c.split_line.ensures.rest)
-          (read_more (found_in c.in_ok-names.names.units) (found_in c.in_ok-names.names.events) (c.loop-rest.number + 1) c.loop-rest.lines c.loop-rest.rest.now c.in_ok-line_at.field-0 some said
+      read = rw (c.in_ok-add.ensures, c.split_line.ensures.rest)
+          (read_more (finder_of c.in_ok-names.names) (c.loop-rest.number + 1) c.loop-rest.lines c.loop-rest.rest.now c.in_ok-said.said some said
           ∙ c.loop-rest.invariant.read);
       few = omega (arith, c.loop-rest.invariant.few, ap length c.split_line.ensures.rest, behind_line-shorter c.loop-rest.rest.now some);
     }

@@ -1,14 +1,13 @@
 use Rattle.std.proofs.Common.{◌≡◌, ◌≤◌, ◌+◌, length}
 use Rattle.wf_audit.specs.Lines.{lines_of}
-use Rattle.wf_audit.specs.Names.{found_in}
+use Rattle.wf_audit.specs.Finders.{finder_of}
 use Rattle.wf_audit.specs.Script.{lines_from}
 use Rattle.wf_audit.proofs.Read.{with_read}
 use Rattle.wf_audit.proofs.script.read_central.Given as goal
 
 abbrev pub invariant-loop-rest : goal.invariant-loop-rest
 invariant-loop-rest l = record {
-  read : with_read l.lines (lines_from (found_in l.names.units) (found_in l.names.events) (l.number + 1) (lines_of l.rest))
-      ≡ lines_from (found_in l.names.units) (found_in l.names.events) 1 (lines_of l.script);
+  read : with_read l.lines (lines_from (finder_of l.names) (l.number + 1) (lines_of l.rest)) ≡ lines_from (finder_of l.names) 1 (lines_of l.script);
   few : l.number + length l.rest ≤ length l.script;
 }
 

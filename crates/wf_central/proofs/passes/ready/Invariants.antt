@@ -1,7 +1,10 @@
 use Rattle.std.proofs.Common.{◌≡◌, map}
 use Rattle.std.specs.List.{range_with_len}
-use Rattle.wf_central.specs.Passes.{ready_by}
+use Rattle.wf_semantics.specs.Snapshot.{is_enabled}
+use Rattle.wf_effects.specs.Seeing.{seeing}
+use Rattle.wf_central.specs.Kept.{bit}
+use Rattle.wf_central.specs.Made.{seen_of}
 use Rattle.wf_central.proofs.passes.ready.Given as goal
 
 abbrev pub invariant-loop-transition : goal.invariant-loop-transition
-invariant-loop-transition l = l.bits ≡ map (ready_by l.chart l.active l.outer) (range_with_len 0 l.transition-index)
+invariant-loop-transition l = l.bits ≡ map (is_enabled l.chart (seeing (seen_of l.snap) (bit l.there))) (range_with_len 0 l.transition-index)

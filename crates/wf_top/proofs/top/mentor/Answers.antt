@@ -1,4 +1,4 @@
-use Rattle.std.proofs.Common.{◌≡◌, ◌∙◌, ◌≤◌, ◌<◌, length, IfSome, Some, None, refl, sym, ap, rules}
+use Rattle.std.proofs.Common.{◌≡◌, ◌∙◌, ◌≤◌, ◌<◌, length, IfSome, Some, None, refl, ap, inl, rules}
 use Rattle.std.specs.Io.KnownBytes.{Consumes, IsAtEnd}
 use lib.Chars.{codes}
 use Rattle.wf_model.specs.declared.limits.TheConstants.{MAX_INPUT}
@@ -36,7 +36,7 @@ returns-in-Err-TooLong g c =
     finished c.args.words.now (record { left = g.S.Source.left c.args.source.now; read_faults = g.S.Source.faults c.args.source.now; held = g.K.Sink.held c.args.sink.now; write_faults = g.K.Sink.faults c.args.sink.now })
     (record { left = g.S.Source.left c.read_all.new.source; read_faults = g.S.Source.faults c.read_all.new.source; held = g.K.Sink.held c.finish-in-Err-TooLong.new.sink; write_faults = g.K.Sink.faults c.finish-in-Err-TooLong.new.sink })
     status.Limit (refusal (codes "limit input")) c.finish-in-Err-TooLong.result
-    (record { command = c.in-Some.command; named = named; faults = kept; answer = long_answer c.in-Some.command (g.S.Source.left c.args.source.now) long })
+    (record { command = c.in-Some.command; named = named; faults = kept; answer = long_answer c.in-Some.command (g.S.Source.left c.args.source.now) long }, inl refl)
     c.finish-in-Err-TooLong.ensures
 
 pub returns : goal.returns

@@ -1,8 +1,17 @@
-use Rattle.std.proofs.Common.{◌∙◌, ap, ap₂}
+use Rattle.std.proofs.Common.{◌≡◌, ◌∙◌, true, List, ap, ap₂, sym, subst}
+use Rattle.wf_model.specs.declared.outer.Entry.{Entry}
+use Rattle.wf_semantics.specs.Admission.{may_come}
 use Rattle.wf_central.specs.Kept.{central_of, notes_of}
 use Rattle.wf_audit.specs.CentralText.{in_unit_order}
+use Rattle.wf_audit.proofs.Orders.{ordered_may_come}
 use Rattle.wf_audit.proofs.Sights.{step_is}
 use Rattle.wf_audit.proofs.central.Run.step.Goals as goal
+
+pub step-requires-clause-come : goal.step-requires-clause-come
+step-requires-clause-come c =
+    let same = c.as_slice-2.ensures ∙ c.in_ok-coming.ensures ∙ ap₂ in_unit_order c.chart.ensures.same c.as_slice.ensures in
+    subst (λ (entries : List Entry). may_come c.args.checked.now (central_of c.args.checked.now c.args.self.now.central) entries ≡ true) (sym same)
+    (ordered_may_come c.args.checked.now (central_of c.args.checked.now c.args.self.now.central) c.args.self.now.pending c.requires.sound.come)
 
 pub returns-clause-reply : goal.returns-clause-reply
 returns-clause-reply c =

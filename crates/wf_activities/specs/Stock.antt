@@ -1,0 +1,72 @@
+-- The items of all units of a chart, with what is worked out once for the chart.
+use Rattle.std.specs.Prelude.{◌≡◌, ℕ, List, [], Option, length, map, filter, slice_index_or}
+use Rattle.std.specs.List.{filter_map, range_with_len}
+use Rattle.std.specs.Option.{option_map}
+use Rattle.wf_model.specs.declared.ids.ActId.{ActId}
+use Rattle.wf_model.specs.declared.ids.VarId.{VarId}
+use Rattle.wf_model.specs.declared.value.Sort.{Sort}
+use Rattle.wf_model.specs.declared.chart.Chart.{Chart}
+use Rattle.wf_model.specs.Sorts.{var_sort}
+use Rattle.wf_semantics.specs.Items.{Item}
+use Rattle.wf_semantics.specs.Configuration.{Leaf}
+use Rattle.wf_semantics.specs.Run.{CentralState}
+use Rattle.wf_semantics.specs.Admission.{is_act_at}
+use Rattle.wf_activities.specs.UnitItems.{UnitItems}
+
+pub record Stock : Type 0 where
+  -- by unit
+  pub items : List (List Item)
+  -- by unit: the step of each item's start
+  pub steps : List (List ℕ)
+  -- by unit: its activities
+  pub acts : List (List ActId)
+  -- by activity: the variables that a completion gives, each with its sort
+  pub wanted : List (List (VarId × Sort))
+
+-- unit u's items; a number that no unit has has none
+abbrev pub items_at : Stock → ℕ → List Item
+items_at stock u = slice_index_or stock.items u []
+
+-- the steps of unit u's items
+abbrev pub steps_at : Stock → ℕ → List ℕ
+steps_at stock u = slice_index_or stock.steps u []
+
+-- the same of the items as each unit keeps them
+abbrev pub items_in : List UnitItems → ℕ → List Item
+items_in units u = slice_index_or (map (λ i. i.items) units) u []
+
+abbrev pub steps_in : List UnitItems → ℕ → List ℕ
+steps_in units u = slice_index_or (map (λ i. i.steps) units) u []
+
+-- a central state with these items, of which nothing else is looked at
+abbrev pub state_with : (ℕ → List Item) → CentralState
+state_with items = record { configuration = Leaf 0; store = []; raised = []; items = items; taken = 0 }
+
+abbrev pub act_id : ℕ → ActId
+act_id a = record { 0 = a }
+
+-- the activities at unit u, ascending
+abbrev pub acts_at : Chart → ℕ → List ActId
+acts_at chart u = map act_id (filter (is_act_at chart u) (range_with_len 0 (length chart.acts)))
+
+-- a variable with its sort, if it is one of the chart
+abbrev pub with_sort : Chart → VarId → Option (VarId × Sort)
+with_sort chart x = option_map (λ sort. (x, sort)) (var_sort chart x.0)
+
+-- these variables, each with its sort
+abbrev pub with_sorts : Chart → List VarId → List (VarId × Sort)
+with_sorts chart outputs = filter_map (with_sort chart) outputs
+
+-- by unit: its activities
+unfoldable pub acts_of : Chart → List (List ActId)
+acts_of chart = map (acts_at chart) (range_with_len 0 (length chart.units))
+
+-- by activity: the variables that a completion gives, each with its sort
+unfoldable pub wanted_of : Chart → List (List (VarId × Sort))
+wanted_of chart = map (λ act. with_sorts chart act.outputs) chart.acts
+
+-- there are items for each unit of the chart, and the tables are the chart's
+pub record AreOf (chart : Chart) (stock : Stock) : Type 0 where
+  pub units : length stock.items ≡ length chart.units
+  pub acts : stock.acts ≡ acts_of chart
+  pub wanted : stock.wanted ≡ wanted_of chart

@@ -1,0 +1,35 @@
+-- What a step sees, by the lists that are kept.
+use Rattle.std.specs.Prelude.{ℕ, ◌||◌, ◌==◌, Bool, List, Some, length, slice_get, slice_index, IsOk}
+use Rattle.std.specs.List.{list_any, range_with_len}
+use Rattle.wf_model.specs.declared.ids.EventId.{EventId}
+use Rattle.wf_model.specs.declared.value.Val.{Val}
+use Rattle.wf_model.specs.declared.chart.Chart.{Chart}
+use Rattle.wf_model.specs.declared.outer.Entry.{Entry}
+use Rattle.wf_model.specs.declared.expr.Expr.{Expr}
+use Rattle.wf_model.specs.Seen.{Seen, HasAll, var_sorts}
+use Rattle.wf_model.specs.Sorts.{sort_of}
+use Rattle.wf_semantics.specs.Run.{is_happening}
+use Rattle.wf_central.specs.Kept.{bit}
+
+-- what expressions read of the states that are in, the values of the variables, and the activities' open items and
+-- completions
+abbrev pub seen_by : List Bool → List Val → List ℕ → List Bool → Seen
+seen_by active store counts dones =
+    record { state = λ s. Some (bit active s); var = slice_get store; count = λ a. Some (slice_index counts a); done = λ a. Some (bit dones a) }
+
+-- the expression has a sort where this is read, and all that it names is there
+abbrev pub CanBeRead : Seen → Expr → Type 0
+CanBeRead seen e = IsOk (sort_of (var_sorts seen) e) × HasAll seen e
+
+abbrev pub was_raised : List EventId → ℕ → Bool
+was_raised raised e = list_any (λ r. r.0 == e) raised
+
+-- the event was raised in the last step, or happens now
+abbrev pub is_there_by : List EventId → List Entry → ℕ → Bool
+is_there_by raised entries e = was_raised raised e || list_any (λ x. is_happening e x.outer) entries
+
+abbrev pub all_events : Chart → List ℕ
+all_events chart = range_with_len 0 (length chart.events)
+
+abbrev pub all_acts : Chart → List ℕ
+all_acts chart = range_with_len 0 (length chart.acts)

@@ -1,0 +1,4 @@
+pub mod Expressions
+mod Performed
+mod Bits
+mod Effecting

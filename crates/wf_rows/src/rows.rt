@@ -1,8 +1,10 @@
 //! Inputs over ends that never fail.
-use crate::inputs::{SIDES, SIDES_SCRIPT, SIDES_TEXT, SINGLE, SINGLE_SCRIPT, SINGLE_TEXT};
+use crate::inputs::{
+    JOB, JOB_SCRIPT, JOB_TEXT, SIDES, SIDES_SCRIPT, SIDES_TEXT, SINGLE, SINGLE_SCRIPT, SINGLE_TEXT,
+};
 use crate::run::{Ends, input_of, run};
 use std::test::Fail;
-use wf_model::limits::MAX_INPUT;
+use wf_model::limits::{MAX_INPUT, MAX_LINES};
 use wf_model::{List, Status};
 
 /// Transitions of which an outer one wins, then the lower number of one scope.
@@ -32,6 +34,7 @@ fn central(rt: HostRuntime) -> Result<(), Fail> {
             "1: ok\n2: step 1 fired t3 starts\n3: ok\n4: step 2 fired t4 starts\n5: after 2 in R X X1 vars raised\n",
         ),
         (SIDES, SIDES_SCRIPT, SIDES_TEXT),
+        (JOB, JOB_SCRIPT, JOB_TEXT),
     ];
     for (chart, script, text) in rows {
         for piece in [1, 4096] {
@@ -45,6 +48,54 @@ fn central(rt: HostRuntime) -> Result<(), Fail> {
             assert_eq!(rt; outcome.status, Status::Ok, "at {script}");
             assert_eq!(rt; outcome.text.as_slice(), text.as_bytes(), "at {script}");
         }
+    }
+    Ok(())
+}
+
+#[test]
+fn scripts(rt: HostRuntime) -> Result<(), Fail> {
+    let rows = [
+        (
+            "---\nstep\n\nstep step\nshow show\n",
+            "refused script line 3\n",
+        ),
+        ("---\nshow\n---\n", "refused script line 2\n"),
+        (
+            "---\nouter a done work 1 gives x = 1,\n",
+            "refused script line 1\n",
+        ),
+    ];
+    for (script, text) in rows {
+        let input = input_of(rt.alloc(), JOB, script)?;
+        let ends = Ends {
+            piece: 4096,
+            failing_reads: &[],
+            failing_writes: &[],
+        };
+        let outcome = run(rt.alloc(), "central", input, ends)?;
+        assert_eq!(rt; outcome.status, Status::ScriptRefused, "at {script}");
+        assert_eq!(rt; outcome.text.as_slice(), text.as_bytes(), "at {script}");
+    }
+    Ok(())
+}
+
+#[test]
+fn lines(rt: HostRuntime) -> Result<(), Fail> {
+    let rows = [
+        (MAX_LINES, Status::Ok, ""),
+        (MAX_LINES + 1, Status::Limit, "refused limit lines\n"),
+    ];
+    for (blank, status, text) in rows {
+        let mut input = input_of(rt.alloc(), JOB, "---\n")?;
+        input.append(vec![in rt.alloc(); b'\n'; blank]?.as_slice())?;
+        let ends = Ends {
+            piece: 4096,
+            failing_reads: &[],
+            failing_writes: &[],
+        };
+        let outcome = run(rt.alloc(), "central", input, ends)?;
+        assert_eq!(rt; outcome.status, status, "at {blank}");
+        assert_eq!(rt; outcome.text.as_slice(), text.as_bytes(), "at {blank}");
     }
     Ok(())
 }

@@ -1,5 +1,5 @@
 -- How many there are at most.
-use Rattle.std.proofs.Common.{◌≡◌, ℕ, zero, suc, ◌+◌, ◌*◌, ◌<◌, ◌≤◌, Bool, true, false, cond, List, [], ◌∷◌, ◌++◌, length, map, filter, Option, Some, None, unwrap_or, slice_get, refl, sym, ◌∙◌, ap, arith, length-append}
+use Rattle.std.proofs.Common.{◌≡◌, ℕ, zero, suc, ◌+◌, ◌*◌, ◌≤◌, Bool, true, false, cond, List, [], ◌∷◌, length, filter, Option, Some, None, unwrap_or, slice_get, refl, ◌∙◌, ap, arith, length-append}
 use Rattle.std.proofs.lemmas.List.{length-map}
 use Rattle.std.proofs.lemmas.List.FromFn.{length-range_with_len}
 use Rattle.std.specs.Option.{option_map}
@@ -15,7 +15,7 @@ use Rattle.wf_model.specs.Accepted.{IsAccepted, is_small}
 use Rattle.wf_model.specs.Tree.{all_transitions}
 use Rattle.wf_semantics.specs.Items.{Item, Completion, close, close_all, new_item}
 use Rattle.wf_semantics.specs.Effects.{actions_of, starts_from, starts_of}
-use Rattle.wf_semantics.specs.Run.{CentralState, fired_in, items_closed, completions_at, new_items, is_at}
+use Rattle.wf_semantics.specs.Run.{CentralState, fired_in, new_items, is_at}
 use Rattle.wf_semantics.proofs.Facts.{rules, chart_of}
 use Rattle.wf_effects.proofs.Expressions.{actions_are}
 

@@ -1,6 +1,6 @@
 -- Events that are marked one by one.
-use Rattle.std.proofs.Common.{◌≡◌, ℕ, zero, suc, ◌+◌, ◌<◌, ◌≤◌, ◌==◌, ◌||◌, cond, Bool, true, false, List, [], ◌∷◌, length, map, take, get_or, set, inl, inr, refl, sym, ◌∙◌, ap, ap₂, arith, eqb-true}
-use Rattle.std.specs.List.{list_any, range_with_len}
+use Rattle.std.proofs.Common.{◌≡◌, ℕ, zero, suc, ◌+◌, ◌<◌, ◌==◌, ◌||◌, cond, Bool, true, false, List, [], ◌∷◌, length, map, take, get_or, set, inl, inr, refl, sym, ◌∙◌, ap, arith, eqb-true}
+use Rattle.std.specs.List.{range_with_len}
 use Rattle.std.proofs.lemmas.List.{set_past}
 use Rattle.wf_model.specs.declared.ids.EventId.{EventId}
 use Rattle.wf_semantics.proofs.Bools.{not_true}

@@ -1,10 +1,7 @@
 -- A kept state, field by field.
-use Rattle.std.proofs.Common.{◌≡◌, ℕ, ◌+◌, ◌*◌, ◌<◌, ◌≤◌, ◌++◌, ◌^◌, Bool, true, List, [], length, map, refl, sym, ◌∙◌, ap, ap₂, subst, arith, length-append}
+use Rattle.std.proofs.Common.{◌≡◌, ℕ, ◌+◌, ◌*◌, ◌<◌, ◌≤◌, ◌++◌, ◌^◌, Bool, true, List, [], length, map, sym, ◌∙◌, ap, ap₂, subst, arith, length-append}
 use Rattle.wf_model.specs.declared.limits.TheConstants.{MAX_TRANSITIONS, MAX_ACTIONS, MAX_STEPS}
-use Rattle.wf_model.specs.declared.ids.EventId.{EventId}
-use Rattle.wf_model.specs.declared.value.Val.{Val}
 use Rattle.wf_model.specs.declared.chart.Chart.{Chart}
-use Rattle.wf_model.specs.declared.chart.Variable.{Variable}
 use Rattle.wf_model.specs.declared.outer.Outer.{Outer}
 use Rattle.wf_model.specs.declared.outer.Entry.{Entry}
 use Rattle.wf_model.specs.declared.update.StartAt.{StartAt}
@@ -15,13 +12,13 @@ use Rattle.wf_semantics.specs.Bits.{tree_of_bits}
 use Rattle.wf_semantics.specs.Entry.{default_tree}
 use Rattle.wf_semantics.specs.Effects.{after_entries, starts_of}
 use Rattle.wf_semantics.specs.Items.{Item}
-use Rattle.wf_semantics.specs.Run.{CentralState, first_state, next_state, fired_in, started_in, items_closed, new_items, completions_at, numbered, open_now, done_now}
+use Rattle.wf_semantics.specs.Run.{first_state, next_state, fired_in, started_in, items_closed, new_items, completions_at, numbered, open_now, done_now}
 use Rattle.wf_semantics.specs.Admission.{may_be_admitted, may_come}
 use Rattle.wf_semantics.specs.Shown.{HasSorts}
 use Rattle.wf_semantics.proofs.Facts.{chart_of}
 use Rattle.wf_semantics.proofs.Configured.{tree_of_same_bits, bits_configuration}
 use Rattle.wf_semantics.proofs.Runs.{first_configuration, next_configuration}
-use Rattle.wf_scopes.specs.Tables.{Tables, tables_of}
+use Rattle.wf_scopes.specs.Tables.{tables_of}
 use Rattle.wf_activities.specs.Stock.{Stock, AreOf, items_at, state_with}
 use Rattle.wf_activities.proofs.ByItems.{admitted_by_items, comes_by_items}
 use Rattle.wf_central.specs.Kept.{Kept, bit, central_of, IsOf}

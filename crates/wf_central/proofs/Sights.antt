@@ -1,5 +1,5 @@
 -- What the kept lists show is what the step sees.
-use Rattle.std.proofs.Common.{◌≡◌, ℕ, zero, suc, ◌<◌, ◌≤◌, ◌==◌, ◌||◌, ◌&&◌, Bool, true, false, List, [], ◌∷◌, length, map, Option, Some, None, unwrap_or, slice_get, inl, inr, refl, sym, ◌∙◌, ap, ap₂, subst, arith, true≢false}
+use Rattle.std.proofs.Common.{◌≡◌, ℕ, zero, suc, ◌<◌, ◌≤◌, ◌&&◌, Bool, false, List, [], ◌∷◌, length, map, Option, Some, None, unwrap_or, slice_get, inl, inr, refl, sym, ◌∙◌, ap, arith}
 use Rattle.std.specs.List.{range_with_len}
 use Rattle.std.specs.Prelude.{slice_index, nat_lt, IfSome}
 use Rattle.std.specs.Option.{option_map, option_map_or}
@@ -15,9 +15,8 @@ use Rattle.wf_model.specs.declared.chart.Chart.{Chart}
 use Rattle.wf_model.specs.declared.outer.Entry.{Entry}
 use Rattle.wf_model.specs.Accepted.{IsAccepted}
 use Rattle.wf_model.specs.Seen.{Seen}
-use Rattle.wf_model.specs.Tree.{all_states}
-use Rattle.wf_semantics.specs.Configuration.{Tree, is_in, IsConfiguration}
-use Rattle.wf_semantics.specs.Effects.{after_entries, after_fired, raised_by, starts_of}
+use Rattle.wf_semantics.specs.Configuration.{is_in}
+use Rattle.wf_semantics.specs.Effects.{after_fired, raised_by, starts_of}
 use Rattle.wf_semantics.specs.Shown.{Shows, HasSorts}
 use Rattle.wf_semantics.specs.Snapshot.{Snapshot, is_active, has_event, has_guard, is_ready, is_enabled}
 use Rattle.wf_semantics.specs.Run.{CentralState, snapshot_of, fired_in, next_state, is_there, open_now, done_now, items_closed, completions_at}
@@ -30,7 +29,7 @@ use Rattle.wf_scopes.proofs.Rows.{row_at, row_len}
 use Rattle.wf_effects.specs.Seeing.{seeing, numbers}
 use Rattle.wf_effects.proofs.Expressions.{can_read, guard_of}
 use Rattle.wf_central.specs.Kept.{bit}
-use Rattle.wf_central.specs.Sight.{CanBeRead, seen_by, all_events, all_acts}
+use Rattle.wf_central.specs.Sight.{CanBeRead, seen_by}
 use Rattle.wf_central.specs.Passes.{trans_id}
 use Rattle.wf_central.specs.Made.{IsSeen, seen_of}
 use Rattle.wf_central.specs.declared.snapshot.StepSnapshot.{StepSnapshot}

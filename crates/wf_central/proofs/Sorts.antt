@@ -24,7 +24,7 @@ use Rattle.std.proofs.lemmas.List.{length-map}
 use Rattle.wf_semantics.proofs.Children.{item_at as item_of}
 use Rattle.wf_semantics.specs.Effects.{after_outputs, after_outer, after_entries}
 use Rattle.wf_semantics.specs.Run.{CentralState}
-use Rattle.wf_semantics.specs.Admission.{may_be_admitted, may_come, may_come_after, is_act_at, is_of, is_closed, is_pending, are_values, are_outputs_of}
+use Rattle.wf_semantics.specs.Admission.{may_be_admitted, may_come_after, is_act_at, is_of, is_closed, is_pending, are_values, are_outputs_of}
 use Rattle.wf_semantics.specs.Shown.{HasSorts}
 use Rattle.wf_semantics.proofs.Bools.{and_both}
 use Rattle.wf_semantics.proofs.Facts.{rules}

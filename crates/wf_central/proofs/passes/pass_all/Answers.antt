@@ -1,5 +1,4 @@
-use Rattle.std.proofs.Common.{◌≡◌, length, map, ap, ◌∙◌}
-use Rattle.wf_model.specs.Tree.{all_transitions}
+use Rattle.std.proofs.Common.{length, ◌∙◌}
 use Rattle.wf_semantics.specs.Snapshot.{is_enabled}
 use Rattle.wf_semantics.specs.Run.{snapshot_of, is_there, fired_in, next_state}
 use Rattle.wf_semantics.proofs.Facts.{chart_of}
@@ -8,7 +7,6 @@ use Rattle.wf_scopes.proofs.Rows.{row_agree}
 use Rattle.wf_effects.specs.Seeing.{seeing}
 use Rattle.wf_central.specs.Kept.{bit}
 use Rattle.wf_central.specs.Made.{AreBits, MakesWalk, seen_of}
-use Rattle.wf_central.specs.Passes.{trans_id}
 use Rattle.wf_central.proofs.Sights.{shows, enabled_same, store_made, raised_made, starts_made}
 use Rattle.wf_central.proofs.passes.pass_all.Goals as goal
 

@@ -1,4 +1,4 @@
-use Rattle.std.proofs.Common.{◌≡◌, ◌<◌, ◌||◌, Bool, length, arith, ap, ◌∙◌}
+use Rattle.std.proofs.Common.{◌<◌, ◌||◌, Bool, length, arith, ap, ◌∙◌}
 use Rattle.std.specs.List.{list_any}
 use Rattle.wf_semantics.specs.Run.{is_happening}
 use Rattle.wf_scopes.proofs.Rows.{row_more}

@@ -4,7 +4,7 @@ use Rattle.wf_model.specs.declared.ids.EventId.{EventId}
 use Rattle.wf_semantics.specs.Effects.{after_entries}
 use Rattle.wf_semantics.specs.Run.{open_now}
 use Rattle.wf_semantics.specs.Shown.{HasSorts}
-use Rattle.wf_activities.specs.Stock.{Stock, items_at, state_with}
+use Rattle.wf_activities.specs.Stock.{items_at, state_with}
 use Rattle.wf_central.specs.Kept.{Kept, central_of}
 use Rattle.wf_central.specs.Sight.{all_acts, all_events, is_there_by}
 use Rattle.wf_central.specs.declared.snapshot.StepSnapshot.{StepSnapshot}

@@ -1,10 +1,7 @@
-use Rattle.std.proofs.Common.{◌≡◌, ◌+◌, ℕ, List, length, ap, sym, subst, ◌∙◌, arith}
+use Rattle.std.proofs.Common.{◌+◌, length, ap, subst, ◌∙◌, arith}
 use Rattle.wf_model.specs.declared.chart.Chart.{Chart}
-use Rattle.wf_model.specs.declared.update.StartAt.{StartAt}
-use Rattle.wf_semantics.specs.Effects.{starts_of}
-use Rattle.wf_semantics.specs.Run.{fired_in, numbered, items_closed, new_items}
 use Rattle.wf_semantics.specs.Shown.{HasSorts}
-use Rattle.wf_activities.specs.Stock.{Stock, AreOf, items_at, state_with}
+use Rattle.wf_activities.specs.Stock.{AreOf, items_at}
 use Rattle.wf_central.specs.Kept.{Kept, central_of}
 use Rattle.wf_central.specs.Made.{MakesStep}
 use Rattle.wf_central.proofs.Same.{comes, room, took, took_numbers, items_made, started_made, next_is, next_of}

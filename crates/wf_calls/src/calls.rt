@@ -141,7 +141,8 @@ fn completions(rt: HostRuntime) -> Result<(), Fail> {
         outputs: List::from_slice(alloc, &outputs)?,
     };
     match lines.as_slice() {
-        [(2, CentralLine::Outer { unit, outer: found })] => {
+        [(number, CentralLine::Outer { unit, outer: found })] => {
+            assert_eq!(rt; *number, 2);
             assert_eq!(rt; *unit, UnitId(0));
             assert_eq!(rt; *found, outer);
         }

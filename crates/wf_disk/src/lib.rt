@@ -9,6 +9,8 @@ mod image;
 mod leaving;
 mod memory;
 mod record;
+#[cfg(test)]
+mod tests;
 
 pub use arm::{Arm, Armed, Fate, Outcome};
 pub use disk::{Disk, WriteRefused};

@@ -8,7 +8,8 @@ mod fault;
 mod frame;
 mod journal;
 mod steps;
-
+#[cfg(test)]
+mod tests;
 
 pub use fault::{AppendFault, ReadFault, StartFault};
 pub use journal::{Journal, JournalRefused};

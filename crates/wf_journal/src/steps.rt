@@ -6,7 +6,7 @@ ghost use Rattle.wf_journal.specs.Journal.{IsLeft, HasBodiesOf, IsPlace, IsRead}
 ghost use Rattle.wf_journal.specs.StepAt.{step_of};
 
 use crate::fault::{ReadFault, StartFault};
-use crate::frame::{is_fit, number};
+use crate::frame::{is_fit, is_open, number};
 use wf_disk::Disk;
 use wf_model::Failed;
 
@@ -30,7 +30,7 @@ pub fn step_at<D: Disk>(disk: &mut D, at: u64, size: u64) -> Result<Step, Failed
 {
     let mut gate = [0u8; 1];
     disk.read_at(at, &mut gate)?;
-    if gate[0] != 1 {
+    if !is_open(gate[0]) {
         return Ok(Step::Closed);
     }
     if size - at <= 5 {

@@ -1,6 +1,6 @@
 -- How a run of disk calls goes on.
-use Rattle.std.proofs.Common.{◌≡◌, ◌⊎◌, inl, inr, ⊎_elim, ℕ, ◌+◌, ◌≤◌, ◌<◌, List, Option, Some, None, IfSome, refl, sym, ◌∙◌, subst, arith}
-use Rattle.wf_disk.specs.Disk.{Told, Within, Follows, Torn, Only, IsSame, Elapses, IsLawful, LeavesOnly, HasCause, Rose, KeepsPlan, IsSafeFor}
+use Rattle.std.proofs.Common.{◌≡◌, inl, inr, ⊎_elim, ℕ, ◌+◌, ◌≤◌, List, Option, Some, None, IfSome, refl, ◌∙◌, subst, arith}
+use Rattle.wf_disk.specs.Disk.{Told, IsSame, Elapses, IsLawful, LeavesOnly, HasCause, KeepsPlan, IsSafeFor}
 
 -- before the first call
 pub started : (old : Told) (P : List ℕ → Type 0) → IsLawful old → ((c : List ℕ) → old.may_leave c → P c) → LeavesOnly old old P

@@ -1,7 +1,7 @@
 -- The fields of a disk in memory after one stroke more.
-use Rattle.std.proofs.Common.{◌≡◌, inl, ℕ, ◌+◌, ◌-◌, ◌≤◌, max, Bool, true, List, [], ◌∷◌, ◌++◌, length, drop, refl, sym, ◌∙◌, ap, subst, arith, length-append}
+use Rattle.std.proofs.Common.{◌≡◌, inl, ℕ, ◌+◌, ◌≤◌, max, true, List, [], ◌∷◌, ◌++◌, length, drop, sym, ◌∙◌, ap, subst, arith, length-append}
 use Rattle.std.proofs.lemmas.List.{drop-append-le, drop_all}
-use Rattle.wf_disk.specs.Disk.{put_at, Only}
+use Rattle.wf_disk.specs.Disk.{put_at}
 use Rattle.wf_disk.specs.Strokes.{Stroke, image_after, are_fit, are_writes, first_state, state_after}
 use Rattle.wf_disk.specs.Memory.{IsSound}
 use Rattle.wf_disk.proofs.Replays.{length-put_at, fit_more, fit_write, fit_sync, image_after-more, are_writes-more}

@@ -1,13 +1,13 @@
 -- What a disk in memory tells after one stroke more, and that each outcome of a crash is one that it tells.
-use Rattle.std.proofs.Common.{◌≡◌, ◌⊎◌, inl, inr, ⊎_elim, ℕ, zero, suc, ◌+◌, ◌-◌, ◌≤◌, ◌<◌, max, Option, Bool, true, false, List, [], ◌∷◌, ◌++◌, length, take, drop, refl, sym, ◌∙◌, ap, subst, arith, if◌then◌else◌, append_assoc, length-append, length-take, length-drop, length-take-le, replicate}
+use Rattle.std.proofs.Common.{◌≡◌, ◌⊎◌, inl, inr, ⊎_elim, ℕ, zero, suc, ◌+◌, ◌≤◌, max, Option, Bool, true, false, List, [], ◌∷◌, ◌++◌, length, take, drop, refl, sym, ◌∙◌, ap, subst, arith, if◌then◌else◌, append_assoc, length-append, length-take-le, replicate}
 use Rattle.std.proofs.lemmas.List.{take_at, drop_at, length-replicate, take-append-drop}
-use Rattle.wf_disk.specs.Disk.{Told, put_at, Torn, Follows, Within, Only, Elapses}
+use Rattle.wf_disk.specs.Disk.{put_at, Torn, Follows, Within, Only, Elapses}
 use Rattle.wf_disk.specs.Strokes.{Stroke, State, Outcome, Since, image_after, torn_after, left_after, are_fit, are_writes, first_state, after, state_after}
 use Rattle.wf_disk.specs.declared.arm.Outcome.{Outcome as CrashOutcome}
 use Rattle.wf_disk.specs.declared.arm.Outcome.TheVariants as outcomes
 use Rattle.wf_disk.specs.declared.arm.Armed.{Armed}
 use Rattle.wf_disk.specs.Memory.{Held, told_of, image_of, counted, one_more, image-state}
-use Rattle.wf_disk.proofs.Replays.{length-put_at, FitsFirst, fits_first, fit_later, image_after-more}
+use Rattle.wf_disk.proofs.Replays.{length-put_at, fits_first, fit_later, image_after-more}
 
 pub state_after-more : (s : State) (xs ys : List Stroke) → state_after s (xs ++ ys) ≡ state_after (state_after s xs) ys
 state_after-more s [] ys = refl

@@ -33,7 +33,11 @@ fn what_a_crash_leaves(rt: HostRuntime) -> Result<(), Fail> {
     let keep: &[u8] = b"abxy";
     let lose: &[u8] = b"abc";
     let torn: &[u8] = &[b'a', b'b', 0xFF, 0xFF];
-    for (outcome, wanted) in [(Outcome::Keep, keep), (Outcome::Lose, lose), (Outcome::Torn, torn)] {
+    for (outcome, wanted) in [
+        (Outcome::Keep, keep),
+        (Outcome::Lose, lose),
+        (Outcome::Torn, torn),
+    ] {
         let mut disk = half_synced(&rt)?;
         disk.crash(outcome);
         assert_eq!(rt; bytes_of(&rt, &mut disk)?.as_slice(), wanted);

@@ -1,4 +1,4 @@
-use Rattle.std.proofs.Common.{◌≡◌, ◌≤◌, arith, length, vec_capacity}
+use Rattle.std.proofs.Common.{arith, vec_capacity}
 use Rattle.wf_disk.proofs.Replays.{first_fits, front_fits, later_fits, lost_within, torn_left}
 use Rattle.wf_disk.proofs.leaving.leave.Goals as goal
 

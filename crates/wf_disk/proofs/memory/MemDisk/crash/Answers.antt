@@ -1,6 +1,6 @@
 use Rattle.std.proofs.Common.{◌≡◌, ℕ, List, length, sym, ◌∙◌, ap, subst}
 use Rattle.wf_disk.specs.Strokes.{Outcome, image_after, left_after}
-use Rattle.wf_disk.specs.Memory.{Held, image_of, left_by, state_of}
+use Rattle.wf_disk.specs.Memory.{Held, left_by, state_of}
 use Rattle.wf_disk.proofs.Tells.{left_is_outcome}
 use Rattle.wf_disk.proofs.memory.MemDisk.crash.Goals as goal
 

@@ -1,4 +1,4 @@
-use Rattle.std.proofs.Common.{rules, ◌≡◌, ◌++◌, ◌∷◌, [], ℕ, List, length, sym, ◌∙◌, ap, subst}
+use Rattle.std.proofs.Common.{rules, ◌≡◌, ℕ, List, length, sym, ◌∙◌, ap, subst}
 use Rattle.wf_disk.specs.Disk.{Only}
 use Rattle.wf_disk.specs.Strokes.{Stroke, Outcome, first_state, state_after, image_after}
 use Rattle.wf_disk.specs.Memory.{Held, image_of, state_of}

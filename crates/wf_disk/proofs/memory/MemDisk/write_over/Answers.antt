@@ -1,7 +1,6 @@
-use Rattle.std.proofs.Common.{rules, arith, ◌≡◌, ◌+◌, ◌≤◌, ◌++◌, ◌∷◌, [], ℕ, List, length, sym, ◌∙◌, ap, subst}
+use Rattle.std.proofs.Common.{rules, arith, ◌≡◌, length, sym, ◌∙◌, ap}
 use Rattle.std.specs.Prelude.{vec_capacity}
 use Rattle.wf_disk.specs.Disk.{put_at}
-use Rattle.wf_disk.specs.Strokes.{image_after}
 use Rattle.wf_disk.specs.Memory.{Held, image_of}
 use Rattle.wf_disk.proofs.Sound.{sound_write}
 use Rattle.wf_disk.proofs.memory.MemDisk.write_over.Goals as goal

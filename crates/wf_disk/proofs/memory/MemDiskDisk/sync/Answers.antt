@@ -1,6 +1,6 @@
-use Rattle.std.proofs.Common.{◌≡◌, ℕ, List, Option, Some, length, sym, ◌∙◌, ap, subst}
+use Rattle.std.proofs.Common.{ℕ, List, Some, length, sym, ◌∙◌, ap, subst}
 use Rattle.std.specs.Prelude.{◌==◌}
-use Rattle.wf_disk.specs.Disk.{Only, Within, Elapses}
+use Rattle.wf_disk.specs.Disk.{Only, Elapses}
 use Rattle.wf_disk.specs.Strokes.{Outcome}
 use Rattle.wf_disk.specs.Memory.{Held, image_of, state_of, told_of, counted}
 use Rattle.wf_disk.proofs.Tells.{within_image, image_sync, elapses_sync}

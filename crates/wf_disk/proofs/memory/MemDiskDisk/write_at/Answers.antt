@@ -1,7 +1,6 @@
-use Rattle.std.proofs.Common.{◌≡◌, ℕ, List, [], ◌∷◌, Option, Some, length, sym, ◌∙◌, ap, subst}
-use Rattle.wf_disk.specs.Disk.{put_at, Torn, Follows, Elapses}
+use Rattle.std.proofs.Common.{ℕ, List, [], ◌∷◌, Some, length, sym, ◌∙◌, ap, subst}
+use Rattle.wf_disk.specs.Disk.{Torn, Follows, Elapses}
 use Rattle.wf_disk.specs.Strokes.{Stroke, Outcome}
-use Rattle.wf_disk.specs.declared.arm.Outcome.{Outcome as CrashOutcome}
 use Rattle.wf_disk.specs.Memory.{Held, image_of, state_of, told_of, counted, stopped_by, one_more}
 use Rattle.wf_disk.proofs.Replays.{image_after-more}
 use Rattle.wf_disk.proofs.Tells.{follows_write, elapses_stroke}

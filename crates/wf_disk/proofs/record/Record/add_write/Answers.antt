@@ -1,7 +1,6 @@
-use Rattle.std.proofs.Common.{rules, arith, ◌≡◌, ℕ, ◌+◌, ◌-◌, ◌≤◌, ◌<◌, ◌++◌, ◌∷◌, [], List, length, take, drop, sym, ap, ◌∙◌, length-append, length-drop}
-use Rattle.std.specs.Prelude.{vec_len, vec_capacity}
+use Rattle.std.proofs.Common.{arith, ◌≡◌, ◌+◌, ◌++◌, ◌∷◌, [], List, length, sym, ap, ◌∙◌, length-append}
 use Rattle.wf_disk.specs.Entries.{Recorded, total, strokes_of}
-use Rattle.wf_disk.specs.Strokes.{Stroke, image_after, torn_after, are_fit}
+use Rattle.wf_disk.specs.Strokes.{Stroke}
 use Rattle.wf_disk.specs.declared.entry.Entry.{Entry}
 use Rattle.wf_disk.specs.declared.entry.Entry.TheVariants as entry
 use Rattle.wf_disk.proofs.Replays.{total-append, strokes_of-write}

@@ -1,9 +1,5 @@
-use Rattle.std.proofs.Common.{rules, arith, ◌≡◌, ℕ, ◌+◌, ◌-◌, ◌≤◌, ◌<◌, ◌++◌, ◌∷◌, [], List, length, take, drop, sym, ap, ◌∙◌, length-append, length-drop}
-use Rattle.std.specs.Prelude.{vec_len, vec_capacity}
-use Rattle.wf_disk.specs.Entries.{Recorded, total, strokes_of}
-use Rattle.wf_disk.specs.Strokes.{Stroke, image_after, torn_after, are_fit}
-use Rattle.wf_disk.specs.declared.entry.Entry.{Entry}
-use Rattle.wf_disk.specs.declared.entry.Entry.TheVariants as entry
+use Rattle.std.proofs.Common.{arith, ◌≡◌, length, sym, ap, ◌∙◌}
+use Rattle.wf_disk.specs.Entries.{Recorded}
 use Rattle.wf_disk.proofs.Replays.{length-strokes_of}
 use Rattle.wf_disk.proofs.record.Record.is_synced.Goals as goal
 

@@ -1,9 +1,7 @@
-use Rattle.std.proofs.Common.{rules, arith, ◌≡◌, ℕ, ◌+◌, ◌-◌, ◌≤◌, ◌<◌, ◌++◌, ◌∷◌, [], List, length, take, drop, sym, ap, ◌∙◌, length-append, length-drop}
-use Rattle.std.specs.Prelude.{vec_len, vec_capacity}
+use Rattle.std.proofs.Common.{arith, ◌≡◌, ◌≤◌, length, take, sym, ap, ◌∙◌}
+use Rattle.std.specs.Prelude.{vec_capacity}
 use Rattle.wf_disk.specs.Entries.{Recorded, total, strokes_of}
-use Rattle.wf_disk.specs.Strokes.{Stroke, image_after, torn_after, are_fit}
-use Rattle.wf_disk.specs.declared.entry.Entry.{Entry}
-use Rattle.wf_disk.specs.declared.entry.Entry.TheVariants as entry
+use Rattle.wf_disk.specs.Strokes.{image_after, are_fit}
 use Rattle.wf_disk.proofs.Replays.{strokes_of-take, total-take, are_fit-strokes_of}
 use Rattle.wf_disk.proofs.record.Record.redo_synced.Goals as goal
 

@@ -1,12 +1,11 @@
-use Rattle.std.proofs.Common.{rules, arith, ◌≡◌, ℕ, ◌+◌, ◌-◌, ◌≤◌, ◌<◌, ◌++◌, ◌∷◌, [], List, length, take, drop, sym, ap, ◌∙◌, length-append, length-drop}
-use Rattle.std.specs.Prelude.{vec_len, vec_capacity}
-use Rattle.wf_disk.specs.Entries.{Recorded, total, strokes_of}
-use Rattle.wf_disk.specs.Strokes.{Stroke, image_after, torn_after, are_fit}
+use Rattle.std.proofs.Common.{arith, ◌≡◌, ℕ, ◌-◌, List, length, take, drop, sym, ap, ◌∙◌, length-drop}
+use Rattle.std.specs.Prelude.{vec_capacity}
+use Rattle.wf_disk.specs.Entries.{Recorded}
+use Rattle.wf_disk.specs.Strokes.{torn_after, are_fit}
 use Rattle.wf_disk.specs.declared.entry.Entry.{Entry}
-use Rattle.wf_disk.specs.declared.entry.Entry.TheVariants as entry
 use Rattle.std.proofs.lemmas.List.{take_all}
 use Rattle.wf_disk.specs.Entries.{do_fit, torn_by}
-use Rattle.wf_disk.proofs.Replays.{Later, later_of, are_fit-strokes_of, torn_after-strokes_of}
+use Rattle.wf_disk.proofs.Replays.{later_of, are_fit-strokes_of, torn_after-strokes_of}
 use Rattle.wf_disk.proofs.record.Record.tear_unsynced.Goals as goal
 
 -- the rest of a list is all that is left of it

@@ -1,7 +1,7 @@
 mod Cuts
 mod Shapes
 mod Strokes
-pub mod Puts
+mod Puts
 mod Starts
 mod Refusals
 mod StepLaws

@@ -1,5 +1,5 @@
 -- What the test before an append says.
-use Rattle.std.proofs.Common.{◌≡◌, ◌≢◌, ℕ, ◌+◌, ◌≤◌, ◌<◌, Bool, true, false, ◌||◌, ◌==◌, nat_lt, cond, Option, Some, None, refl, sym, ◌∙◌, ap, subst, arith, rules}
+use Rattle.std.proofs.Common.{◌≡◌, ◌≢◌, ℕ, ◌+◌, ◌≤◌, Bool, true, false, ◌||◌, ◌==◌, nat_lt, cond, Some, None, refl, subst, rules}
 use Rattle.wf_disk.specs.Disk.{Told, IsLawful, LeavesOnly}
 use Rattle.wf_disk.proofs.Runs.{started}
 use Rattle.wf_journal.specs.declared.fault.AppendFault.{AppendFault}

@@ -1,9 +1,8 @@
 -- What a journal's file is before, between and after the strokes of an append.
-use Rattle.std.proofs.Common.{◌≡◌, ◌⊎◌, inl, inr, ℕ, zero, suc, ◌+◌, ◌-◌, ◌*◌, ◌/◌, ◌%◌, ◌≤◌, ◌<◌, Bool, true, false, ◌&&◌, ◌==◌, cond, nat_le, nat_lt, List, [], ◌∷◌, ◌++◌, length, take, drop, get_or, refl, sym, ◌∙◌, ap, subst, arith, append_assoc, length-append, length-take-le, take-append-drop, rules}
-use Rattle.std.proofs.lemmas.List.{take_at, drop_at, drop_more, take_all, append-nil}
-use Rattle.std.proofs.lemmas.Bool.{cases_Bool, cond-true, cond-false}
-use Rattle.wf_disk.specs.Disk.{put_at, Torn}
-use Rattle.wf_journal.specs.Frames.{number_of, number_bytes, packed, fits, bodies_after, end_after, breaks_after, bodies_of, end_of, is_broken, IsAtRest, IsBeforeOrAfter}
+use Rattle.std.proofs.Common.{◌≡◌, ℕ, suc, ◌+◌, ◌/◌, ◌%◌, ◌≤◌, ◌<◌, true, false, ◌==◌, List, [], ◌∷◌, ◌++◌, length, take, drop, get_or, refl, sym, ◌∙◌, ap, subst, arith, length-append, length-take-le, take-append-drop, rules}
+use Rattle.std.proofs.lemmas.List.{take_at, drop_more, append-nil}
+use Rattle.std.proofs.lemmas.Bool.{cond-true}
+use Rattle.wf_journal.specs.Frames.{number_of, packed, fits, bodies_after, end_after, breaks_after, bodies_of, end_of, is_broken, IsAtRest}
 use Rattle.wf_journal.proofs.Cuts.{Cut, cut, bodies-closed, end-closed, breaks-closed}
 
 -- the four bytes of a length stand for it

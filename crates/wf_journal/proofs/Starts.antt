@@ -1,12 +1,12 @@
 -- What a crash may leave while a journal is started.
-use Rattle.std.proofs.Common.{◌≡◌, inl, inr, ℕ, ◌+◌, ◌≤◌, ◌<◌, Bool, true, false, List, [], ◌∷◌, ◌++◌, length, drop, take, Option, Some, IfSome, Result, Ok, Err, IfErr, refl, sym, ◌∙◌, ap, subst, arith, length-drop}
+use Rattle.std.proofs.Common.{◌≡◌, ℕ, ◌+◌, ◌≤◌, true, List, [], ◌∷◌, length, drop, Some, IfSome, Result, Ok, Err, IfErr, refl, sym, ◌∙◌, ap, subst, arith}
 use Rattle.std.proofs.lemmas.List.{append-nil, drop_all}
-use Rattle.wf_disk.specs.Disk.{Told, put_at, Torn, Follows, Within, Only, IsSame, Elapses, IsLawful, LeavesOnly}
-use Rattle.wf_disk.proofs.Runs.{started, goes_on, stays, weaker, from_some}
+use Rattle.wf_disk.specs.Disk.{Told, put_at, Torn, Follows, Within, Only, Elapses, IsLawful, LeavesOnly}
+use Rattle.wf_disk.proofs.Runs.{started, goes_on, from_some}
 use Rattle.wf_journal.specs.declared.fault.StartFault.{StartFault}
 use Rattle.wf_journal.specs.declared.fault.StartFault.TheVariants.{BadFrame}
 use Rattle.wf_journal.specs.Frames.{bodies_of, end_of, is_broken, IsAtRest}
-use Rattle.wf_journal.specs.Journal.{IsSettled, IsSettledAs, IsLeft, IsLeftAs, HasBodiesOf}
+use Rattle.wf_journal.specs.Journal.{IsLeftAs, HasBodiesOf}
 
 pub short_bodies : (c : List ℕ) → length c ≤ 1 → bodies_of c ≡ []
 unfolding bodies_of

@@ -1,7 +1,7 @@
 -- What one step of the walk finds.
-use Rattle.std.proofs.Common.{◌≡◌, ◌⊎◌, inl, inr, ℕ, zero, suc, ◌+◌, ◌-◌, ◌≤◌, ◌<◌, Bool, true, false, ◌&&◌, ◌==◌, cond, nat_le, nat_lt, List, [], ◌∷◌, ◌++◌, length, take, drop, get_or, refl, sym, ◌∙◌, ap, subst, arith, rules, length-drop}
-use Rattle.std.proofs.lemmas.List.{get_or-take, get_or-drop, drop-drop, drop_more}
-use Rattle.std.proofs.lemmas.Bool.{cases_Bool, cond-true, cond-false}
+use Rattle.std.proofs.Common.{◌≡◌, ℕ, zero, suc, ◌+◌, ◌-◌, ◌≤◌, ◌<◌, Bool, true, false, ◌&&◌, ◌==◌, cond, List, [], ◌∷◌, length, take, drop, get_or, refl, sym, ◌∙◌, ap, subst, arith, rules, length-drop}
+use Rattle.std.proofs.lemmas.List.{get_or-take, get_or-drop, drop-drop}
+use Rattle.std.proofs.lemmas.Bool.{cond-true, cond-false}
 use Rattle.wf_journal.specs.declared.steps.Step.{Step}
 use Rattle.wf_journal.specs.declared.steps.Step.TheVariants.{Closed, Broken, Next}
 use Rattle.wf_journal.specs.Frames.{number_of, fits, bodies_after, end_after, breaks_after, end_of, is_broken, IsAtRest}

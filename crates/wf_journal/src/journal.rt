@@ -168,18 +168,21 @@ impl<D: Disk> Journal<D> {
 }
 
 impl Journal<MemDisk> {
-    ghost use Rattle.wf_disk.specs.Memory.{armed, disarmed};
+    ghost use Rattle.wf_disk.specs.Memory.{armed, disarmed, told_of};
+    ghost use Rattle.wf_journal.specs.State.{IsReady};
 
     /// Arms the disk. All else stays. Takes no memory.
     pub fn arm(&mut self, stroke: u32, what: Arm)
-        ensures { self.new ≡ record self.old { disk = armed self.old.disk stroke what } }
+        ensures armed { self.new ≡ record self.old { disk = armed self.old.disk stroke what } }
+        ensures ready { IsReady told_of self.old → IsReady told_of self.new }
     {
         self.disk.arm(stroke, what);
     }
 
     /// Removes the disk's arm. All else stays. Takes no memory.
     pub fn disarm(&mut self)
-        ensures { self.new ≡ record self.old { disk = disarmed self.old.disk } }
+        ensures disarmed { self.new ≡ record self.old { disk = disarmed self.old.disk } }
+        ensures ready { IsReady told_of self.old → IsReady told_of self.new }
     {
         self.disk.disarm();
     }

@@ -7,20 +7,19 @@ const HEAD: [u8; 8] = [0x48, 1, 3, 0x74, 0x77, 0x6F, 1, 0x61];
 
 const ADMIT: [u8; 12] = [0x41, 0, 0, 0, 0, 0, 0, 0, 7, 0, 0, 1];
 
-/// A disk after the start of a new journal, which makes three strokes, and an append that meets the arm, and what the
-/// append answered.
+/// A disk after the start of its journal and an append that meets the arm, and what the append answered.
 fn appended(
     rt: &HostRuntime,
-    mut disk: MemDisk,
-    stroke: u8,
+    disk: MemDisk,
+    stroke: u32,
     what: Arm,
     body: &[u8],
 ) -> Result<(MemDisk, Result<(), AppendFault>), Fail> {
-    disk.arm(3 + u32::from(stroke), what);
     let mut journal = match Journal::start(rt.alloc(), disk) {
         Ok(journal) => journal,
         Err(refused) => return Err(Fail::from(refused.fault)),
     };
+    journal.arm(stroke, what);
     let answer = journal.append(body);
     Ok((journal.close(), answer))
 }

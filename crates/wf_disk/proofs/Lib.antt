@@ -1,0 +1,4 @@
+pub mod Runs
+mod Replays
+mod Tells
+mod Sound

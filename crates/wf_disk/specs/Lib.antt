@@ -1,0 +1,5 @@
+pub mod Arms
+pub mod Disk
+pub mod Strokes
+pub mod Entries
+pub mod Memory

@@ -1,0 +1,167 @@
+-- A disk in memory tells its moments from a record of its strokes.
+use Rattle.std.specs.Prelude.{◌≡◌, ℕ, zero, suc, ◌+◌, ◌-◌, ◌^◌, ◌≤◌, min, Bool, true, ◌||◌, ◌==◌, nat_le, if◌then◌else◌, List, [], ◌∷◌, ◌++◌, length, drop, Option, None, Some, is_some, unwrap_or}
+use mathlib.Core.Logic.{inr}
+use Rattle.std.proofs.Common.{refl, sym, ap, arith, ◌∙◌}
+use Rattle.wf_disk.specs.Disk.{Told, Only, IsLawful}
+use Rattle.wf_disk.specs.Strokes.{Stroke, State, Outcome, Since, image_after, left_after, are_fit, are_writes, first_state, after, state_after}
+use Rattle.wf_disk.specs.Arms.{is_counted, fate_at}
+use Rattle.wf_disk.specs.declared.arm.Arm.{Arm}
+use Rattle.wf_disk.specs.declared.arm.Armed.{Armed}
+use Rattle.wf_disk.specs.declared.arm.Fate.{Fate}
+use Rattle.wf_disk.specs.declared.arm.Fate.TheVariants as fate
+use Rattle.wf_disk.specs.declared.arm.Outcome.{Outcome as CrashOutcome}
+use Rattle.wf_disk.specs.declared.arm.Outcome.TheVariants as outcomes
+
+-- a disk in memory, as its callers see it
+pub record Held : Type 0 where
+  -- its bytes as the record began, and the strokes that were done since
+  pub first : List ℕ
+  pub strokes : List Stroke
+  -- how many of these stand up to the last sync
+  pub synced : ℕ
+  pub clock : ℕ
+  pub faults : ℕ
+  -- the outcome that a disk which has stopped takes at its revival
+  pub stop : Option CrashOutcome
+  pub arm : Option Armed
+  -- for how many bytes and for how many writes there is room
+  pub room : ℕ
+  pub writes : ℕ
+
+abbrev pub image_of : Held → List ℕ
+image_of m = image_after m.first m.strokes
+
+-- what a crash leaves by its outcome
+abbrev pub left_by : CrashOutcome → Held → List ℕ
+left_by outcome m = left_after outcome m.first m.strokes m.synced
+
+-- the same disk with these bytes and a new record
+abbrev pub begun_anew : Held → List ℕ → Held
+begun_anew m file = record m { first = file; strokes = []; synced = 0 }
+
+-- the same disk after a revival, at which a disk that has stopped takes its outcome
+abbrev pub revived : Held → Held
+revived m = record (begun_anew m (left_by (unwrap_or m.stop outcomes.Keep) m)) { stop = None }
+
+-- empty, and never armed
+abbrev pub new_disk : Held
+new_disk = record { first = []; strokes = []; synced = 0; clock = 0; faults = 0; stop = None; arm = None; room = 0; writes = 0 }
+
+abbrev pub armed : Held → ℕ → Arm → Held
+armed m stroke what = record m { arm = Some (record { after = m.clock; stroke = stroke; what = what }) }
+
+abbrev pub disarmed : Held → Held
+disarmed m = record m { arm = None }
+
+-- the same disk, whatever room it has
+abbrev pub IsButForRoom : Held → Held → Type 0
+IsButForRoom wanted now = now ≡ record wanted { room = now.room; writes = now.writes }
+
+-- after writes of so many bytes no more room is gone than theirs
+pub record KeepsRoom (old new : Held) (bytes writes : ℕ) : Type 0 where
+  pub bytes_left : old.room ≤ new.room + bytes
+  pub writes_left : old.writes ≤ new.writes + writes
+
+-- a count with one more, where it doesn't stand at its greatest value
+abbrev pub one_more : ℕ → ℕ
+one_more count = min (count + 1) (2 ^ 64 - 1)
+
+-- a clock at its greatest value stops the disk for good
+abbrev pub has_stopped : Held → Bool
+has_stopped m = is_some m.stop || (m.clock == 2 ^ 64 - 1)
+
+-- what the next stroke does
+abbrev pub fate_of : Held → Fate
+fate_of m = if has_stopped m then fate.Fails else fate_at m.arm (m.clock + 1)
+
+abbrev pub fails_at : Held → ℕ → Bool
+fails_at m n = is_some m.stop || (nat_le (2 ^ 64) n || is_counted m.arm n)
+
+-- one more stroke was done
+abbrev pub with_write : Held → ℕ → List ℕ → Held
+with_write m at bytes = record m { strokes = m.strokes ++ Stroke.Wrote at bytes ∷ [] }
+
+-- a sync, which makes no entry where nothing is unsynced
+abbrev pub with_sync : Held → Held
+with_sync m =
+    if m.synced == length m.strokes then m
+    else record m { strokes = m.strokes ++ Stroke.Synced ∷ []; synced = length m.strokes + 1 }
+
+abbrev pub counted : Held → Held
+counted m = record m { clock = one_more m.clock }
+
+abbrev pub failed : Held → Held
+failed m = record m { clock = one_more m.clock; faults = one_more m.faults }
+
+-- a call that failed and is no stroke
+abbrev pub faulted : Held → Held
+faulted m = record m { faults = one_more m.faults }
+
+-- after a size or a read, which fail on a disk that has stopped
+abbrev pub after_read : Held → Held
+after_read m = if has_stopped m then faulted m else m
+
+-- a failed stroke that stops the disk
+abbrev pub stopped_by : Held → CrashOutcome → Held
+stopped_by m outcome = record (failed m) { stop = Some outcome }
+
+-- after a write by its fate, and after a sync
+abbrev pub after_write : Held → ℕ → List ℕ → Fate → Held
+after_write m at bytes fate.Done = counted (with_write m at bytes)
+after_write m at bytes fate.Fails = failed m
+after_write m at bytes (fate.Stops outcome) = stopped_by (with_write m at bytes) outcome
+
+abbrev pub after_sync : Held → Fate → Held
+after_sync m fate.Done = counted (with_sync m)
+after_sync m fate.Fails = failed m
+after_sync m (fate.Stops outcome) = stopped_by m outcome
+
+abbrev pub state_of : Held → State
+state_of m = state_after (first_state m.first) m.strokes
+
+abbrev pub told_of : Held → Told
+told_of m = record {
+  image = Some (image_of m);
+  clock = m.clock;
+  faults = m.faults;
+  moment = length m.strokes;
+  may_leave = Outcome (state_of m);
+  left_since = λ t c. Since (first_state m.first) t m.strokes c;
+  is_to_fail = λ n. fails_at m n ≡ true;
+  has_room = λ writes bytes. (writes ≤ m.writes) × (bytes ≤ m.room);
+}
+
+pub image-state : (s : State) (strokes : List Stroke) → (state_after s strokes).image ≡ image_after s.image strokes
+image-state s [] = refl
+image-state s (Stroke.Wrote at bytes ∷ strokes) = image-state (after s (Stroke.Wrote at bytes)) strokes
+image-state s (Stroke.Synced ∷ strokes) = image-state (after s Stroke.Synced) strokes
+
+counts_from : (s : State) (strokes : List Stroke) (t : ℕ) (c : List ℕ) → t ≤ length strokes → Outcome (state_after s strokes) c → Since s t strokes c
+counts_from s [] t c within now = now
+counts_from s (stroke ∷ strokes) zero c within now = inr (counts_from (after s stroke) strokes zero c (omega arith) now)
+counts_from s (stroke ∷ strokes) (suc t) c within now = counts_from (after s stroke) strokes t c (omega arith) now
+
+only_at : (s : State) (strokes : List Stroke) (c : List ℕ) → Since s (length strokes) strokes c → Outcome (state_after s strokes) c
+only_at s [] c left = left
+only_at s (stroke ∷ strokes) c left = only_at (after s stroke) strokes c left
+
+same_image : (a b : List ℕ) → Some a ≡ Some b → b ≡ a
+same_image a b is = sym (ap (λ o. unwrap_or o a) is)
+
+pub lawful_memory : (m : Held) → IsLawful (told_of m)
+lawful_memory m = record {
+  stands = λ file is. inr (same_image _ _ is ∙ sym (image-state (first_state m.first) m.strokes));
+  counts_now = λ t within c now. counts_from (first_state m.first) m.strokes t c within now;
+  only_now = λ c left. only_at (first_state m.first) m.strokes c left;
+}
+
+-- what is true of the fields of a disk in memory
+pub record IsSound (image first : List ℕ) (strokes : List Stroke) (synced room : ℕ) : Type 0 where
+  pub replayed : image ≡ image_after first strokes
+  -- with nothing unsynced a crash leaves the image
+  pub clean : synced ≡ length strokes → Only image (state_after (first_state first) strokes).may
+  pub fit : are_fit (length first) (length image) strokes ≡ true
+  pub within : synced ≤ length strokes
+  pub unsynced : are_writes (drop synced strokes) ≡ true
+  -- there is room to begin the record anew
+  pub spare : length image ≤ room

@@ -1,0 +1,7 @@
+mod Cuts
+mod Shapes
+mod Strokes
+mod Puts
+mod Starts
+mod Refusals
+mod StepLaws

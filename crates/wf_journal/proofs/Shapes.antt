@@ -1,0 +1,114 @@
+-- What a journal's file is before, between and after the strokes of an append.
+use Rattle.std.proofs.Common.{◌≡◌, ℕ, suc, ◌+◌, ◌/◌, ◌%◌, ◌≤◌, ◌<◌, true, false, ◌==◌, List, [], ◌∷◌, ◌++◌, length, take, drop, get_or, refl, sym, ◌∙◌, ap, subst, arith, length-append, length-take-le, take-append-drop, rules}
+use Rattle.std.proofs.lemmas.List.{take_at, drop_more, append-nil}
+use Rattle.std.proofs.lemmas.Bool.{cond-true}
+use Rattle.wf_journal.specs.Frames.{number_of, packed, fits, bodies_after, end_after, breaks_after, bodies_of, end_of, is_broken, IsAtRest}
+use Rattle.wf_journal.proofs.Cuts.{Cut, cut, bodies-closed, end-closed, breaks-closed}
+
+-- the four bytes of a length stand for it
+number-bytes : (n : ℕ) → n ≤ 1048576 → number_of (n / 16777216) (n / 65536 % 256) (n / 256 % 256) (n % 256) ≡ n
+number-bytes n le = omega arith
+
+bodies-skip : (xs ys : List ℕ) → bodies_after (length xs) (xs ++ ys) ≡ bodies_after 0 ys
+bodies-skip [] ys = refl
+bodies-skip (x ∷ xs) ys = bodies-skip xs ys
+
+end-skip : (xs ys : List ℕ) → end_after (length xs) (xs ++ ys) ≡ length xs + end_after 0 ys
+end-skip [] ys = omega arith
+end-skip (x ∷ xs) ys = ap suc (end-skip xs ys) ∙ omega arith
+
+breaks-skip : (xs ys : List ℕ) → breaks_after (length xs) (xs ++ ys) ≡ breaks_after 0 ys
+breaks-skip [] ys = refl
+breaks-skip (x ∷ xs) ys = breaks-skip xs ys
+
+-- one open frame and a closed gate
+module _ (body : List ℕ) (some : 1 ≤ length body) (most : length body ≤ 1048576) (more : List ℕ) where
+  abbrev tail : List ℕ
+  tail = packed body ++ 0 ∷ more
+
+  abbrev n : ℕ
+  n = number_of (length body / 16777216) (length body / 65536 % 256) (length body / 256 % 256) (length body % 256)
+
+  is_n : n ≡ length body
+  is_n = number-bytes (length body) most
+
+  fits_here : fits (length body) (body ++ 0 ∷ more) ≡ true
+  fits_here =
+      let inside : length body < length (body ++ 0 ∷ more) = omega (arith, length-append body (0 ∷ more)) in
+      search (rules, some, most, inside)
+
+  fits_n : fits n (body ++ 0 ∷ more) ≡ true
+  fits_n = ap (λ k. fits k (body ++ 0 ∷ more)) is_n ∙ fits_here
+
+  pub bodies-one : bodies_after 0 (1 ∷ tail) ≡ body ∷ []
+  bodies-one =
+      cond-true _ _ _ fits_n ∙ ap (λ k. take k (body ++ 0 ∷ more) ∷ bodies_after k (body ++ 0 ∷ more)) is_n
+      ∙ ap (λ l. l ∷ bodies_after (length body) (body ++ 0 ∷ more)) (take_at body (0 ∷ more) (length body) refl)
+      ∙ ap (λ l. body ∷ l) (bodies-skip body (0 ∷ more) ∙ bodies-closed 0 more refl)
+
+  pub end-one : end_after 0 (1 ∷ tail) ≡ 5 + length body
+  end-one = cond-true _ _ _ fits_n ∙ ap (λ k. suc (suc (suc (suc (suc (end_after k (body ++ 0 ∷ more))))))) is_n
+      ∙ omega (arith, end-skip body (0 ∷ more), end-closed 0 more refl)
+
+  pub breaks-one : breaks_after 0 (1 ∷ tail) ≡ false
+  breaks-one = cond-true _ _ _ fits_n ∙ ap (λ k. breaks_after k (body ++ 0 ∷ more)) is_n ∙ breaks-skip body (0 ∷ more) ∙ breaks-closed 0 more refl
+
+-- THE FILE AT REST
+module _ (file : List ℕ) (place : ℕ) (rests : IsAtRest file place) where
+  abbrev front : List ℕ
+  front = take place file
+
+  abbrev pub gate : ℕ
+  gate = get_or file place 1
+
+  cut_here : (g : ℕ) (tail : List ℕ) → Cut 0 file g tail
+  unfolding is_broken end_of
+  cut_here g tail = cut 0 file g tail rests.whole (omega (arith, rests.end, rests.within))
+
+  cut_bodies : (g : ℕ) (tail : List ℕ) → bodies_of (front ++ g ∷ tail) ≡ bodies_of file ++ bodies_after 0 (g ∷ tail)
+  unfolding bodies_of end_of
+  cut_bodies g tail = subst (λ k. bodies_after 0 (take k file ++ g ∷ tail) ≡ bodies_after 0 file ++ bodies_after 0 (g ∷ tail)) rests.end (cut_here g tail).bodies
+
+  cut_end : (g : ℕ) (tail : List ℕ) → end_of (front ++ g ∷ tail) ≡ place + end_after 0 (g ∷ tail)
+  unfolding end_of
+  cut_end g tail = subst (λ k. end_after 0 (take k file ++ g ∷ tail) ≡ k + end_after 0 (g ∷ tail)) rests.end (cut_here g tail).end
+
+  cut_breaks : (g : ℕ) (tail : List ℕ) → is_broken (front ++ g ∷ tail) ≡ breaks_after 0 (g ∷ tail)
+  unfolding is_broken end_of
+  cut_breaks g tail = subst (λ k. breaks_after 0 (take k file ++ g ∷ tail) ≡ breaks_after 0 (g ∷ tail)) rests.end (cut_here g tail).breaks
+
+  pub shut : (gate == 1) ≡ false
+  unfolding end_of
+  shut = subst (λ k. (get_or file k 1 == 1) ≡ false) rests.end (cut_here 0 []).shut
+
+  length-front : length front ≡ place
+  length-front = length-take-le place file (omega (arith, rests.within))
+
+  length-cut : (g : ℕ) (tail : List ℕ) → place < length (front ++ g ∷ tail)
+  length-cut g tail = omega (arith, length-append front (g ∷ tail), length-front)
+
+  pub whole_file : file ≡ front ++ gate ∷ drop (place + 1) file
+  whole_file = sym (take-append-drop place file) ∙ ap (λ l. front ++ l) (drop_more file place 1 rests.within)
+
+  -- behind a closed gate there may be anything
+  pub closed_rests : (g : ℕ) (tail : List ℕ) → (g == 1) ≡ false → IsAtRest (front ++ g ∷ tail) place
+  closed_rests g tail is = record {
+    whole = cut_breaks g tail ∙ breaks-closed g tail is;
+    end = cut_end g tail ∙ omega (arith, end-closed g tail is);
+    within = length-cut g tail;
+  }
+
+  pub closed_bodies : (g : ℕ) (tail : List ℕ) → (g == 1) ≡ false → bodies_of (front ++ g ∷ tail) ≡ bodies_of file
+  closed_bodies g tail is = cut_bodies g tail ∙ ap (λ l. bodies_of file ++ l) (bodies-closed g tail is) ∙ append-nil (bodies_of file)
+
+  -- a frame behind an open gate
+  module _ (body : List ℕ) (some : 1 ≤ length body) (most : length body ≤ 1048576) (more : List ℕ) where
+    pub open_rests : IsAtRest (front ++ 1 ∷ (packed body ++ 0 ∷ more)) (place + (5 + length body))
+    open_rests = record {
+      whole = cut_breaks 1 (packed body ++ 0 ∷ more) ∙ breaks-one body some most more;
+      end = cut_end 1 (packed body ++ 0 ∷ more) ∙ ap (λ k. place + k) (end-one body some most more);
+      within = omega (arith, length-front, length-append front (1 ∷ (packed body ++ 0 ∷ more)), length-append body (0 ∷ more));
+    }
+
+    pub open_bodies : bodies_of (front ++ 1 ∷ (packed body ++ 0 ∷ more)) ≡ bodies_of file ++ body ∷ []
+    open_bodies = cut_bodies 1 (packed body ++ 0 ∷ more) ∙ ap (λ l. bodies_of file ++ l) (bodies-one body some most more)

@@ -1,0 +1,5 @@
+pub mod Faults
+pub mod Frames
+pub mod Journal
+pub mod State
+pub mod StepAt

@@ -1,0 +1,42 @@
+//! The four strokes of an append.
+ghost use Rattle.std.specs.Prelude.{◌≡◌, ◌+◌, ◌≤◌, ◌<◌, ◌++◌, ◌∷◌, [], ℕ, List, Option, Some, OnOk, IsOk, IsErrOf, is_some, length, vec_capacity};
+ghost use Rattle.wf_disk.specs.Disk.{Told, Only, HasCause, IsSafeFor, LeavesOnly};
+ghost use Rattle.wf_journal.specs.Frames.{bodies_of, IsAtRest, IsBeforeOrAfter};
+ghost use Rattle.wf_journal.specs.Journal.{IsSettled, IsLeft};
+
+use crate::frame::pack;
+use wf_disk::{Disk, WriteRefused};
+
+/// Writes a frame behind the closed gate, and then opens the gate.
+pub fn put<D: Disk>(
+    disk: &mut D,
+    place: u64,
+    body: &[u8],
+    room: &mut Vec<u8>,
+) -> Result<(), WriteRefused>
+    requires some { 1 ≤ length body.now }
+    requires most { length body.now ≤ 1048576 }
+    requires fits { place + length body.now + 6 ≤ 536870912 }
+    requires settled { IsSettled (D.told disk.old) place }
+
+    ensures ok { OnOk result (IsLeft (D.told disk.old) (D.told disk.new) (place + (5 + length body.now)) (body.now ∷ [])) }
+    ensures no_memory { IsErrOf result WriteRefused.NoMemory → IsLeft (D.told disk.old) (D.told disk.new) place [] }
+    ensures any_moment { (file : List ℕ) → (D.told disk.old).image ≡ Some file →
+        LeavesOnly (D.told disk.old) (D.told disk.new) (IsBeforeOrAfter (bodies_of file) body.now) }
+    ensures fewer { (file : List ℕ) → (D.told disk.old).image ≡ Some file → (D.told disk.new).clock < (D.told disk.old).clock + 3 →
+        LeavesOnly (D.told disk.old) (D.told disk.new) (λ c. bodies_of c ≡ bodies_of file) }
+    ensures tells { is_some (D.told disk.new).image ≡ is_some (D.told disk.old).image }
+    ensures four { OnOk result ((D.told disk.new).clock ≡ (D.told disk.old).clock + 4) }
+    ensures two { IsErrOf result WriteRefused.NoMemory → (D.told disk.new).clock ≤ (D.told disk.old).clock + 2 }
+    ensures good { IsSafeFor (D.told disk.old) 4 → (D.told disk.old).has_room 2 (length body.now + 6) → length body.now + 5 ≤ vec_capacity room.old → IsOk result }
+    ensures cause { HasCause (D.told disk.old) (D.told disk.new) (IsErrOf result WriteRefused.Failed) }
+{
+    if pack(room, body).is_err() {
+        return Err(WriteRefused::NoMemory);
+    }
+    disk.write_at(place + 1, room)?;
+    disk.sync()?;
+    disk.write_at(place, &[1])?;
+    disk.sync()?;
+    Ok(())
+}

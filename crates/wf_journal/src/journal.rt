@@ -1,0 +1,189 @@
+//! A journal: bodies that were appended in order, each on the disk before it is acknowledged.
+ghost use Rattle.std.specs.Prelude.{◌≡◌, ◌⊎◌, ◌+◌, ◌≤◌, ◌<◌, ◌∷◌, [], ℕ, List, Bool, true, false, nat_lt, if◌then◌else◌, Option, None, Some, IfSome, is_some, IsNone, IfOk, IfErr, IsOk, OnOk, IsErr, IsErrOf, length};
+ghost use Rattle.wf_disk.specs.Disk.{Told, Only, HasCause, IsSafeFor, LeavesOnly, Rose, IsSame};
+ghost use Rattle.wf_journal.specs.Frames.{bodies_of, is_broken, end_of, IsBeforeOrAfter};
+ghost use Rattle.wf_journal.specs.Journal.{IsSettled, IsLeft, HasBodiesOf, IsPlace, IsRead};
+ghost use Rattle.wf_journal.specs.Faults.{refusal_of};
+
+use crate::append::put;
+use crate::fault::{AppendFault, ReadFault, StartFault};
+use crate::frame::{MAX_BODY, MAX_FILE};
+use crate::steps::{find_end, read_frame};
+use std::alloc::Global;
+use wf_disk::{Arm, Disk, MemDisk, WriteRefused};
+use wf_model::{Bytes, List as Items, NoMemory};
+
+/// A journal that could not be started, and its disk.
+#[derive(Drop)]
+pub struct JournalRefused<D> {
+    pub fault: StartFault,
+    pub disk: D,
+}
+
+/// A journal on a disk. A crash at any moment leaves the bodies that were appended, in order, and of an append that
+/// wasn't acknowledged its one body or none.
+#[derive(Drop)]
+pub struct Journal<D: Disk> {
+    disk: D,
+    /// The place of the closed gate.
+    place: u64,
+    /// Whether a disk call of an append failed.
+    failed: bool,
+    room: Vec<u8>,
+    alloc: Global,
+}
+
+impl<D: Disk> Journal<D> {
+    ghost use Rattle.wf_journal.specs.State.{IsReady, room_of};
+
+    /// Finds the end of the journal on a disk, or makes a new one on a disk of fewer than two bytes. It syncs first.
+    /// A refusal hands the disk back. In linear time in the journal's bytes, with one frame in memory at a time.
+    pub fn start(alloc: Global, disk: D) -> Result<Journal<D>, JournalRefused<D>>
+        ensures left { IfOk result (λ journal. (journal.failed ≡ false) × IsLeft (D.told disk) (D.told journal.disk) journal.place []) }
+        ensures ready { IfOk result (λ journal. IsReady D.told journal) }
+        ensures tells { IfOk result (λ journal. is_some (D.told journal.disk).image ≡ is_some (D.told disk).image) }
+        ensures whole { IfOk result (λ _. (file : List ℕ) → (D.told disk).image ≡ Some file → 2 ≤ length file → is_broken file ≡ false) }
+        ensures bad { IfErr result (λ refused. (at : ℕ) → refused.fault ≡ StartFault.BadFrame at → (file : List ℕ) → (D.told disk).image ≡ Some file →
+            (2 ≤ length file × (is_broken file ≡ true) × (end_of file ≡ at) × ((D.told refused.disk).image ≡ Some file))) }
+        ensures any_moment { IfOk result (λ journal. (file : List ℕ) → (D.told disk).image ≡ Some file →
+            LeavesOnly (D.told disk) (D.told journal.disk) (HasBodiesOf (D.told disk).may_leave)) }
+        ensures any_moment_refused { IfErr result (λ refused. (file : List ℕ) → (D.told disk).image ≡ Some file →
+            LeavesOnly (D.told disk) (D.told refused.disk) (HasBodiesOf (D.told disk).may_leave)) }
+        ensures strokes { IfOk result (λ journal. (file : List ℕ) → (D.told disk).image ≡ Some file →
+            (D.told journal.disk).clock ≡ (D.told disk).clock + (if nat_lt (length file) 2 then 3 else 1)) }
+        ensures later { IfOk result (λ journal. (D.told disk).faults ≤ (D.told journal.disk).faults) }
+        ensures cause { IfErr result (λ refused. HasCause (D.told disk) (D.told refused.disk) (refused.fault ≡ StartFault.DiskFailed)) }
+    {
+        let mut disk = disk;
+        match find_end(&mut disk) {
+            Ok(place) => Ok(Journal {
+                disk,
+                place,
+                failed: false,
+                room: Vec::new(alloc),
+                alloc,
+            }),
+            Err(fault) => Err(JournalRefused { fault, disk }),
+        }
+    }
+
+    // Why a body of this length is refused before anything is done.
+    #[tactic(auto, unfolding(crate::specs::Faults::refusal_of))]
+    fn refusal(&self, len: usize) -> Option<AppendFault>
+        ensures { result ≡ refusal_of self.now.failed self.now.place len }
+    {
+        if self.failed {
+            Some(AppendFault::Reopen)
+        } else if len == 0 || MAX_BODY < len as u64 {
+            Some(AppendFault::TooLong)
+        } else if MAX_FILE - 6 - (len as u64) < self.place {
+            Some(AppendFault::Full)
+        } else {
+            None
+        }
+    }
+
+    /// Adds a body, in four strokes. At `Ok` each crash from then on leaves a journal that has it. `Reopen`, `TooLong`
+    /// and `Full` come in this order, before anything is done. After `NoMemory` the bodies are as before. After
+    /// `DiskFailed` the body may stand or not, and each later append answers `Reopen`.
+    pub fn append(&mut self, body: &[u8]) -> Result<(), AppendFault>
+        requires ready { IsReady D.told self.old }
+        ensures ready { IsReady D.told self.new }
+
+        ensures refused { IfSome (refusal_of self.old.failed self.old.place (length body.now)) (λ fault. (result ≡ Err fault) × (self.new.disk ≡ self.old.disk)) }
+        ensures other { IsNone (refusal_of self.old.failed self.old.place (length body.now)) → IfErr result (λ fault. (fault ≡ AppendFault.NoMemory) ⊎ (fault ≡ AppendFault.DiskFailed)) }
+        ensures ok { OnOk result (IsLeft (D.told self.old.disk) (D.told self.new.disk) self.new.place (body.now ∷ [])) }
+        ensures no_memory { IsErrOf result AppendFault.NoMemory → IsLeft (D.told self.old.disk) (D.told self.new.disk) self.new.place [] }
+
+        // What a crash leaves.
+        ensures any_moment { self.old.failed ≡ false → (file : List ℕ) → (D.told self.old.disk).image ≡ Some file →
+            LeavesOnly (D.told self.old.disk) (D.told self.new.disk) (IsBeforeOrAfter (bodies_of file) body.now) }
+        ensures fewer { self.old.failed ≡ false → (file : List ℕ) → (D.told self.old.disk).image ≡ Some file → (D.told self.new.disk).clock < (D.told self.old.disk).clock + 3 →
+            LeavesOnly (D.told self.old.disk) (D.told self.new.disk) (λ c. bodies_of c ≡ bodies_of file) }
+        ensures reopen { self.old.failed ≡ true → LeavesOnly (D.told self.old.disk) (D.told self.new.disk) (HasBodiesOf (D.told self.old.disk).may_leave) }
+
+        ensures four { OnOk result ((D.told self.new.disk).clock ≡ (D.told self.old.disk).clock + 4) }
+        ensures two { IsErrOf result AppendFault.NoMemory → (D.told self.new.disk).clock ≤ (D.told self.old.disk).clock + 2 }
+        ensures good { IsNone (refusal_of self.old.failed self.old.place (length body.now)) → IsSafeFor (D.told self.old.disk) 4 →
+            (D.told self.old.disk).has_room 2 (length body.now + 6) → length body.now ≤ room_of self.old → IsOk result }
+        ensures cause { HasCause (D.told self.old.disk) (D.told self.new.disk) (IsErrOf result AppendFault.DiskFailed) }
+        ensures failed { IsErrOf result AppendFault.DiskFailed → self.new.failed ≡ true }
+        ensures not_failed { (IsErrOf result AppendFault.DiskFailed → ⊥) → self.new.failed ≡ self.old.failed }
+    {
+        if let Some(fault) = self.refusal(body.len()) {
+            return Err(fault);
+        }
+        match put(&mut self.disk, self.place, body, &mut self.room) {
+            Ok(()) => {
+                self.place += 5 + body.len() as u64;
+                Ok(())
+            }
+            Err(WriteRefused::NoMemory) => Err(AppendFault::NoMemory),
+            Err(WriteRefused::Failed) => {
+                self.failed = true;
+                Err(AppendFault::DiskFailed)
+            }
+        }
+    }
+
+    /// Reads the body of the frame at a place into `into`, and gives the place behind it; none at the end. The place
+    /// is 0, or was given by an earlier read. After an `Err` `into` is as before. In linear time in the body.
+    pub fn read(&mut self, place: u64, into: &mut Bytes) -> Result<Option<u64>, ReadFault>
+        ensures read { IfOk result (λ next. (file : List ℕ) → (D.told self.old.disk).image ≡ Some file → IsPlace file place → IsRead file place next into.new) }
+        ensures same { IsSame (D.told self.old.disk) (D.told self.new.disk) }
+        ensures kept { (self.new.place ≡ self.old.place) × (self.new.failed ≡ self.old.failed) }
+        ensures into { IsErr result → into.new ≡ into.old }
+        ensures cause { HasCause (D.told self.old.disk) (D.told self.new.disk) (IsErrOf result ReadFault.DiskFailed) }
+    {
+        let mut body = Vec::new(self.alloc);
+        let next = read_frame(&mut self.disk, place, &mut body)?;
+        *into = Items::from_vec(body);
+        Ok(next)
+    }
+
+    /// Makes room of its own for an append of at most so many bytes.
+    pub fn reserve(&mut self, len: u32) -> Result<(), NoMemory>
+        ensures room { OnOk result (len ≤ room_of self.new) }
+        ensures disk { self.new.disk ≡ self.old.disk }
+        ensures kept { (self.new.place ≡ self.old.place) × (self.new.failed ≡ self.old.failed) }
+    {
+        self.room.clear();
+        self.room.reserve(len as usize + 5)?;
+        Ok(())
+    }
+
+    /// The disk, lent.
+    pub fn disk(&self) -> &D
+        ensures { result.now ≡ self.now.disk }
+    {
+        &self.disk
+    }
+
+    /// Gives the disk back.
+    pub fn close(self) -> D
+        ensures { result ≡ self.disk }
+    {
+        self.disk
+    }
+}
+
+impl Journal<MemDisk> {
+    ghost use Rattle.wf_disk.specs.Memory.{armed, disarmed, told_of};
+    ghost use Rattle.wf_journal.specs.State.{IsReady};
+
+    /// Arms the disk. All else stays. Takes no memory.
+    pub fn arm(&mut self, stroke: u32, what: Arm)
+        ensures armed { self.new ≡ record self.old { disk = armed self.old.disk stroke what } }
+        ensures ready { IsReady told_of self.old → IsReady told_of self.new }
+    {
+        self.disk.arm(stroke, what);
+    }
+
+    /// Removes the disk's arm. All else stays. Takes no memory.
+    pub fn disarm(&mut self)
+        ensures disarmed { self.new ≡ record self.old { disk = disarmed self.old.disk } }
+        ensures ready { IsReady told_of self.old → IsReady told_of self.new }
+    {
+        self.disk.disarm();
+    }
+}

@@ -1,0 +1,15 @@
+//! A journal of bodies on a disk, each of which survives a crash at any moment after its append was acknowledged.
+//! A frame is a gate byte, a length of four bytes and the body. Frames follow each other, and after the last stands a
+//! gate that isn't open. A body is written behind the closed gate and synced, and only then is the gate opened.
+#![tactic(auto)]
+
+mod append;
+mod fault;
+mod frame;
+mod journal;
+mod steps;
+#[cfg(test)]
+mod tests;
+
+pub use fault::{AppendFault, ReadFault, StartFault};
+pub use journal::{Journal, JournalRefused};

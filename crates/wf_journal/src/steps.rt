@@ -1,0 +1,116 @@
+//! The walk over the frames of a disk.
+ghost use Rattle.std.specs.Prelude.{◌≡◌, ◌+◌, ◌≤◌, ◌<◌, ℕ, List, Option, Some, IfOk, IfErr, IsErr, IsErrOf, is_some, Bool, true, false, [], nat_lt, if◌then◌else◌, length, drop};
+ghost use Rattle.wf_disk.specs.Disk.{Told, IsSame, HasCause, LeavesOnly};
+ghost use Rattle.wf_journal.specs.Frames.{IsAtRest, end_of, is_broken};
+ghost use Rattle.wf_journal.specs.Journal.{IsLeft, HasBodiesOf, IsPlace, IsRead};
+ghost use Rattle.wf_journal.specs.StepAt.{step_of};
+
+use crate::fault::{ReadFault, StartFault};
+use crate::frame::{is_fit, is_open, number};
+use wf_disk::Disk;
+use wf_model::Failed;
+
+/// What stands at a place of the walk: a closed gate, an open gate with no whole frame behind it, or a frame and the
+/// place behind it.
+#[derive(Clone, Copy, Debug, PartialEq, Eq)]
+pub enum Step {
+    Closed,
+    Broken,
+    Next(u64),
+}
+
+/// What stands at a place of the walk.
+pub fn step_at<D: Disk>(disk: &mut D, at: u64, size: u64) -> Result<Step, Failed>
+    requires within { at < size }
+    requires size { (file : List ℕ) → (D.told disk.old).image ≡ Some file → size ≡ length file }
+    ensures step { IfOk result (λ step. (file : List ℕ) → (D.told disk.old).image ≡ Some file → step ≡ step_of at (drop at file)) }
+    ensures next { IfOk result (λ step. (next : ℕ) → step ≡ Step.Next next → (at + 5 < next × next < size)) }
+    ensures same { IsSame (D.told disk.old) (D.told disk.new) }
+    ensures cause { HasCause (D.told disk.old) (D.told disk.new) (IsErr result) }
+{
+    let mut gate = [0u8; 1];
+    disk.read_at(at, &mut gate)?;
+    if !is_open(gate[0]) {
+        return Ok(Step::Closed);
+    }
+    if size - at <= 5 {
+        return Ok(Step::Broken);
+    }
+    let mut field = [0u8; 4];
+    disk.read_at(at + 1, &mut field)?;
+    let len = number(field);
+    if is_fit(len, size - at - 5) {
+        Ok(Step::Next(at + 5 + len))
+    } else {
+        Ok(Step::Broken)
+    }
+}
+
+/// The place of the closed gate behind the last frame.
+pub fn walk<D: Disk>(disk: &mut D, size: u64) -> Result<u64, StartFault>
+    requires some { 0 < size }
+    requires size { (file : List ℕ) → (D.told disk.old).image ≡ Some file → size ≡ length file }
+    ensures rests { IfOk result (λ at. (file : List ℕ) → (D.told disk.old).image ≡ Some file → IsAtRest file at) }
+    ensures bad { IfErr result (λ e. (at : ℕ) → e ≡ StartFault.BadFrame at → (file : List ℕ) → (D.told disk.old).image ≡ Some file → (is_broken file ≡ true) × (end_of file ≡ at)) }
+    ensures memory { IsErrOf result StartFault.NoMemory → ⊥ }
+    ensures same { IsSame (D.told disk.old) (D.told disk.new) }
+    ensures cause { HasCause (D.told disk.old) (D.told disk.new) (IsErrOf result StartFault.DiskFailed) }
+{
+    let mut at = 0;
+    while at < size {
+        match step_at(disk, at, size)? {
+            Step::Closed => return Ok(at),
+            Step::Broken => return Err(StartFault::BadFrame { at }),
+            Step::Next(next) => at = next,
+        }
+    }
+    Err(StartFault::BadFrame { at })
+}
+
+/// Syncs, makes a new journal on a disk of fewer than two bytes, and finds the closed gate.
+pub fn find_end<D: Disk>(disk: &mut D) -> Result<u64, StartFault>
+    ensures left { IfOk result (λ place. IsLeft (D.told disk.old) (D.told disk.new) place []) }
+    ensures tells { is_some (D.told disk.new).image ≡ is_some (D.told disk.old).image }
+    ensures whole { IfOk result (λ _. (file : List ℕ) → (D.told disk.old).image ≡ Some file → 2 ≤ length file → is_broken file ≡ false) }
+    ensures bad { IfErr result (λ e. (at : ℕ) → e ≡ StartFault.BadFrame at → (file : List ℕ) → (D.told disk.old).image ≡ Some file →
+        (2 ≤ length file × (is_broken file ≡ true) × (end_of file ≡ at) × ((D.told disk.new).image ≡ Some file))) }
+    ensures any_moment { (file : List ℕ) → (D.told disk.old).image ≡ Some file → LeavesOnly (D.told disk.old) (D.told disk.new) (HasBodiesOf (D.told disk.old).may_leave) }
+    ensures strokes { IfOk result (λ _. (file : List ℕ) → (D.told disk.old).image ≡ Some file →
+        (D.told disk.new).clock ≡ (D.told disk.old).clock + (if nat_lt (length file) 2 then 3 else 1)) }
+    ensures cause { HasCause (D.told disk.old) (D.told disk.new) (IsErrOf result StartFault.DiskFailed) }
+{
+    disk.sync()?;
+    let size = disk.size()?;
+    if size < 2 {
+        disk.write_at(0, &[0])?;
+        disk.sync()?;
+        return Ok(0);
+    }
+    walk(disk, size)
+}
+
+/// Reads the body of the frame at a place into `body`, and gives the place behind it; none at the end.
+pub fn read_frame<D: Disk>(
+    disk: &mut D,
+    place: u64,
+    body: &mut Vec<u8>,
+) -> Result<Option<u64>, ReadFault>
+    ensures read { IfOk result (λ next. (file : List ℕ) → (D.told disk.old).image ≡ Some file → IsPlace file place → IsRead file place next body.new.items) }
+    ensures same { IsSame (D.told disk.old) (D.told disk.new) }
+    ensures cause { HasCause (D.told disk.old) (D.told disk.new) (IsErrOf result ReadFault.DiskFailed) }
+{
+    let size = disk.size()?;
+    if place >= size {
+        return Ok(None);
+    }
+    let step = step_at(disk, place, size)?;
+    let Step::Next(next) = step else {
+        return Ok(None);
+    };
+    body.clear();
+    if body.resize((next - place - 5) as usize, 0).is_err() {
+        return Err(ReadFault::NoMemory);
+    }
+    disk.read_at(place + 5, body)?;
+    Ok(Some(next))
+}

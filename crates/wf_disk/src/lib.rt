@@ -11,6 +11,8 @@ mod memory;
 mod record;
 mod shelf;
 #[cfg(test)]
+mod shelf_tests;
+#[cfg(test)]
 mod tests;
 
 pub use arm::{Arm, Armed, Fate, Outcome};

@@ -43,6 +43,7 @@ impl From<AllocError> for TakeRefused {
 /// one that was never on it is new and empty. A call fails only where the shelf's count of faults rises, and moves
 /// no disk but the one that it names.
 pub trait DiskShelf {
+    /// What it hands out.
     type Disk: Disk + Send;
 
     /// What the shelf is at this moment.

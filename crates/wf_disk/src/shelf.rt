@@ -39,9 +39,8 @@ impl From<AllocError> for TakeRefused {
     }
 }
 
-/// Named disks. A disk is out from the take that hands it out until it is given back, and else stands on the shelf;
-/// one that was never on it is new and empty. A call fails only where the shelf's count of faults rises, and moves
-/// no disk but the one that it names.
+/// Named disks. A disk is out from the take that hands it out until it is given back, and else stands on the shelf.
+/// A call fails only where the shelf's count of faults rises, and moves no disk but the one that it names.
 pub trait DiskShelf {
     /// What it hands out.
     type Disk: Disk + Send;

@@ -3,3 +3,4 @@ pub mod Disk
 pub mod Strokes
 pub mod Entries
 pub mod Memory
+pub mod Shelf

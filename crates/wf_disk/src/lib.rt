@@ -9,9 +9,13 @@ mod image;
 mod leaving;
 mod memory;
 mod record;
+mod shelf;
+#[cfg(test)]
+mod shelf_tests;
 #[cfg(test)]
 mod tests;
 
 pub use arm::{Arm, Armed, Fate, Outcome};
 pub use disk::{Disk, WriteRefused};
 pub use memory::MemDisk;
+pub use shelf::{DiskShelf, TakeRefused};

@@ -6,7 +6,7 @@ use Rattle.wf_model.specs.declared.outer.Outer.{Outer}
 use Rattle.wf_model.specs.declared.outer.Entry.{Entry}
 use Rattle.wf_model.specs.declared.update.StartAt.{StartAt}
 use Rattle.wf_model.specs.Accepted.{IsAccepted}
-use Rattle.wf_model.specs.Tree.{all_states}
+use Rattle.wf_model.specs.Tree.{all_states, all_acts, all_events}
 use Rattle.wf_semantics.specs.Configuration.{Tree, is_in, IsConfiguration}
 use Rattle.wf_semantics.specs.Bits.{tree_of_bits}
 use Rattle.wf_semantics.specs.Entry.{default_tree}
@@ -22,7 +22,7 @@ use Rattle.wf_scopes.specs.Tables.{tables_of}
 use Rattle.wf_activities.specs.Stock.{Stock, AreOf, items_at, state_with}
 use Rattle.wf_activities.proofs.ByItems.{admitted_by_items, comes_by_items}
 use Rattle.wf_central.specs.Kept.{Kept, bit, central_of, IsOf}
-use Rattle.wf_central.specs.Sight.{all_acts, all_events, is_there_by}
+use Rattle.wf_central.specs.Sight.{is_there_by}
 use Rattle.wf_central.specs.Made.{IsSeen}
 use Rattle.wf_central.specs.declared.snapshot.StepSnapshot.{StepSnapshot}
 use Rattle.wf_central.proofs.Passing.{row_bit}

@@ -1,9 +1,8 @@
 -- What a step sees, by the lists that are kept.
-use Rattle.std.specs.Prelude.{ℕ, ◌||◌, ◌==◌, Bool, List, Some, length, slice_get, slice_index, IsOk}
-use Rattle.std.specs.List.{list_any, range_with_len}
+use Rattle.std.specs.Prelude.{ℕ, ◌||◌, ◌==◌, Bool, List, Some, slice_get, slice_index, IsOk}
+use Rattle.std.specs.List.{list_any}
 use Rattle.wf_model.specs.declared.ids.EventId.{EventId}
 use Rattle.wf_model.specs.declared.value.Val.{Val}
-use Rattle.wf_model.specs.declared.chart.Chart.{Chart}
 use Rattle.wf_model.specs.declared.outer.Entry.{Entry}
 use Rattle.wf_model.specs.declared.expr.Expr.{Expr}
 use Rattle.wf_model.specs.Seen.{Seen, HasAll, var_sorts}
@@ -27,9 +26,3 @@ was_raised raised e = list_any (λ r. r.0 == e) raised
 -- the event was raised in the last step, or happens now
 abbrev pub is_there_by : List EventId → List Entry → ℕ → Bool
 is_there_by raised entries e = was_raised raised e || list_any (λ x. is_happening e x.outer) entries
-
-abbrev pub all_events : Chart → List ℕ
-all_events chart = range_with_len 0 (length chart.events)
-
-abbrev pub all_acts : Chart → List ℕ
-all_acts chart = range_with_len 0 (length chart.acts)

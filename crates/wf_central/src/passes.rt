@@ -4,7 +4,7 @@ ghost use Rattle.std.specs.Prelude.{◌≡◌, ◌<◌, ◌||◌, ℕ, Bool, tru
 ghost use Rattle.std.specs.List.{list_any};
 ghost use Rattle.wf_model.specs.Accepted.{IsAccepted};
 ghost use Rattle.wf_model.specs.Seen.{Seen};
-ghost use Rattle.wf_model.specs.Tree.{all_states, all_transitions, ancestors};
+ghost use Rattle.wf_model.specs.Tree.{all_states, all_transitions, ancestors, all_events};
 ghost use Rattle.wf_semantics.specs.Configuration.{Tree};
 ghost use Rattle.wf_semantics.specs.Run.{CentralState, is_happening};
 ghost use Rattle.wf_semantics.specs.Shown.{HasSorts};
@@ -13,7 +13,7 @@ ghost use Rattle.wf_scopes.specs.Tables.{tables_of, ancestor_ids};
 ghost use Rattle.wf_effects.specs.Seeing.{seeing};
 ghost use Rattle.wf_central.specs.Kept.{bit};
 ghost use Rattle.wf_central.specs.Passes.{trans_id, at, chosen_by, firing_by, fired_by, first_ids, bit_by, moved_by};
-ghost use Rattle.wf_central.specs.Sight.{CanBeRead, was_raised, is_there_by, all_events};
+ghost use Rattle.wf_central.specs.Sight.{CanBeRead, was_raised, is_there_by};
 ghost use Rattle.wf_central.specs.Made.{seen_of, AreBits, MakesWalk, IsSeen, MakesStep};
 
 use crate::snapshot::{StepSnapshot, is_set};

@@ -1,5 +1,5 @@
 //! A cursor over the tokens of a text.
-ghost use Rattle.std.specs.Prelude.{◌≡◌, ◌≤◌, ◌<◌, ◌^◌, true, None, length, drop, slice_range, IfOk, IfSome, OnOk};
+ghost use Rattle.std.specs.Prelude.{◌≡◌, ◌≤◌, ◌<◌, ◌^◌, true, None, length, drop, slice_range, IfOk, IfSome, OnOk, OnErr};
 ghost use Rattle.wf_cursor.specs.Input as spec;
 ghost use Rattle.wf_cursor.specs.Input.{Reads, HasRoom, chart_with};
 
@@ -453,7 +453,8 @@ impl<'a> Cursor<'a> {
     #[tactic(auto, unfolding(crate::specs::Input::with_unit))]
     pub fn add_unit(&mut self, name: Name) -> Result<(), NoMemory>
         requires { HasRoom self.old }
-        ensures { OnOk result (self.new ≡ spec.with_unit name self.old) }
+        ensures ok { OnOk result (self.new ≡ spec.with_unit name self.old) }
+        ensures err { OnErr result (self.new ≡ self.old) }
     {
         self.units.push(name)
     }
@@ -462,7 +463,8 @@ impl<'a> Cursor<'a> {
     #[tactic(auto, unfolding(crate::specs::Input::with_event))]
     pub fn add_event(&mut self, event: Event) -> Result<(), NoMemory>
         requires { HasRoom self.old }
-        ensures { OnOk result (self.new ≡ spec.with_event event self.old) }
+        ensures ok { OnOk result (self.new ≡ spec.with_event event self.old) }
+        ensures err { OnErr result (self.new ≡ self.old) }
     {
         self.events.push(event)
     }
@@ -471,7 +473,8 @@ impl<'a> Cursor<'a> {
     #[tactic(auto, unfolding(crate::specs::Input::with_var))]
     pub fn add_var(&mut self, var: Variable) -> Result<(), NoMemory>
         requires { HasRoom self.old }
-        ensures { OnOk result (self.new ≡ spec.with_var var self.old) }
+        ensures ok { OnOk result (self.new ≡ spec.with_var var self.old) }
+        ensures err { OnErr result (self.new ≡ self.old) }
     {
         self.vars.push(var)
     }
@@ -480,7 +483,8 @@ impl<'a> Cursor<'a> {
     #[tactic(auto, unfolding(crate::specs::Input::with_act))]
     pub fn add_act(&mut self, act: Activity) -> Result<(), NoMemory>
         requires { HasRoom self.old }
-        ensures { OnOk result (self.new ≡ spec.with_act act self.old) }
+        ensures ok { OnOk result (self.new ≡ spec.with_act act self.old) }
+        ensures err { OnErr result (self.new ≡ self.old) }
     {
         self.acts.push(act)
     }
@@ -489,7 +493,8 @@ impl<'a> Cursor<'a> {
     #[tactic(auto, unfolding(crate::specs::Input::with_state))]
     pub fn add_state(&mut self, state: State) -> Result<(), NoMemory>
         requires { HasRoom self.old }
-        ensures { OnOk result (self.new ≡ spec.with_state state self.old) }
+        ensures ok { OnOk result (self.new ≡ spec.with_state state self.old) }
+        ensures err { OnErr result (self.new ≡ self.old) }
     {
         self.states.push(state)
     }

@@ -1,5 +1,5 @@
 //! The names that are declared.
-ghost use Rattle.std.specs.Prelude.{◌≡◌, [], ◌∷◌, ◌++◌, None, OnOk};
+ghost use Rattle.std.specs.Prelude.{◌≡◌, [], ◌∷◌, ◌++◌, None, OnOk, OnErr};
 ghost use Rattle.wf_cursor.specs.Names as spec;
 
 use indexmap::IndexMap;
@@ -52,7 +52,8 @@ impl Names {
     /// Declares a name that isn't declared yet. In constant time on average, beside the bytes of the name.
     pub fn declare(&mut self, alloc: Global, name: &[u8], what: Declared) -> Result<(), NoMemory>
         requires { spec.declared_as self.old name.now ≡ None }
-        ensures { OnOk result (self.new ≡ self.old ++ (name.now, what) ∷ []) }
+        ensures ok { OnOk result (self.new ≡ self.old ++ (name.now, what) ∷ []) }
+        ensures err { OnErr result (self.new ≡ self.old) }
     {
         let key = Vec::from_slice(alloc, name)?;
         self.known.insert(key, what)?;

@@ -20,6 +20,14 @@ all_states chart = range_with_len 0 (length chart.states)
 abbrev pub all_transitions : Chart → List ℕ
 all_transitions chart = range_with_len 0 (length chart.transitions)
 
+-- the numbers of all events
+abbrev pub all_events : Chart → List ℕ
+all_events chart = range_with_len 0 (length chart.events)
+
+-- the numbers of all activities
+abbrev pub all_acts : Chart → List ℕ
+all_acts chart = range_with_len 0 (length chart.acts)
+
 abbrev pub kind : Chart → ℕ → Kind
 kind chart s = unwrap_or (option_map (λ state. state.kind) (slice_get chart.states s)) Basic
 

@@ -56,3 +56,18 @@ pub const MAX_REPORT: usize = 268_435_456;
 
 /// Steps of a run.
 pub const MAX_STEPS: u32 = 20_000;
+
+/// Transitions that fire in one step: at most one in each Or state, and some state is basic.
+pub const MAX_FIRED: usize = 511;
+
+/// Activities that are started in one step: at most one by each action of a transition that fires.
+pub const MAX_STARTS: usize = 8_176;
+
+/// Admissions that one turn seals: the outers that an update brings.
+pub const MAX_SEALED: usize = 64;
+
+/// Bytes of one body of a journal: 1 MiB.
+pub const MAX_BODY: u64 = 1_048_576;
+
+/// Bytes of a journal's file: 512 MiB.
+pub const MAX_JOURNAL: u64 = 536_870_912;

@@ -6,7 +6,8 @@ use Rattle.wf_semantics.specs.Run.{open_now}
 use Rattle.wf_semantics.specs.Shown.{HasSorts}
 use Rattle.wf_activities.specs.Stock.{items_at, state_with}
 use Rattle.wf_central.specs.Kept.{Kept, central_of}
-use Rattle.wf_central.specs.Sight.{all_acts, all_events, is_there_by}
+use Rattle.wf_model.specs.Tree.{all_acts, all_events}
+use Rattle.wf_central.specs.Sight.{is_there_by}
 use Rattle.wf_central.specs.declared.snapshot.StepSnapshot.{StepSnapshot}
 use Rattle.wf_central.proofs.Sorts.{sorted_after}
 use Rattle.wf_central.proofs.Same.{comes, sees}

@@ -1,13 +1,12 @@
 -- What a journal's file is before, between and after the strokes of an append.
-use Rattle.std.proofs.Common.{◌≡◌, ℕ, suc, ◌+◌, ◌/◌, ◌%◌, ◌≤◌, ◌<◌, true, false, ◌==◌, List, [], ◌∷◌, ◌++◌, length, take, drop, get_or, refl, sym, ◌∙◌, ap, subst, arith, length-append, length-take-le, take-append-drop, rules}
+use Rattle.std.proofs.Common.{◌≡◌, ℕ, suc, ◌+◌, ◌≤◌, ◌<◌, true, false, ◌==◌, List, [], ◌∷◌, ◌++◌, length, take, drop, get_or, refl, sym, ◌∙◌, ap, subst, arith, length-append, length-take-le, take-append-drop, rules}
 use Rattle.std.proofs.lemmas.List.{take_at, drop_more, append-nil}
 use Rattle.std.proofs.lemmas.Bool.{cond-true}
-use Rattle.wf_journal.specs.Frames.{number_of, packed, fits, bodies_after, end_after, breaks_after, bodies_of, end_of, is_broken, IsAtRest}
+use Rattle.std.proofs.lemmas.Nat.{from_be_bytes-to_be_bytes_4}
+use Rattle.std.specs.Int.{w32, to_be_bytes, from_be_bytes}
+use Rattle.wf_model.specs.declared.limits.TheConstants.{MAX_BODY}
+use Rattle.wf_journal.specs.Frames.{packed, fits, bodies_after, end_after, breaks_after, bodies_of, end_of, is_broken, IsAtRest}
 use Rattle.wf_journal.proofs.Cuts.{Cut, cut, bodies-closed, end-closed, breaks-closed}
-
--- the four bytes of a length stand for it
-number-bytes : (n : ℕ) → n ≤ 1048576 → number_of (n / 16777216) (n / 65536 % 256) (n / 256 % 256) (n % 256) ≡ n
-number-bytes n le = omega arith
 
 bodies-skip : (xs ys : List ℕ) → bodies_after (length xs) (xs ++ ys) ≡ bodies_after 0 ys
 bodies-skip [] ys = refl
@@ -22,15 +21,15 @@ breaks-skip [] ys = refl
 breaks-skip (x ∷ xs) ys = breaks-skip xs ys
 
 -- one open frame and a closed gate
-module _ (body : List ℕ) (some : 1 ≤ length body) (most : length body ≤ 1048576) (more : List ℕ) where
+module _ (body : List ℕ) (some : 1 ≤ length body) (most : length body ≤ MAX_BODY) (more : List ℕ) where
   abbrev tail : List ℕ
   tail = packed body ++ 0 ∷ more
 
   abbrev n : ℕ
-  n = number_of (length body / 16777216) (length body / 65536 % 256) (length body / 256 % 256) (length body % 256)
+  n = from_be_bytes w32 (to_be_bytes w32 (length body))
 
   is_n : n ≡ length body
-  is_n = number-bytes (length body) most
+  is_n = from_be_bytes-to_be_bytes_4 (length body) (omega (arith, most))
 
   fits_here : fits (length body) (body ++ 0 ∷ more) ≡ true
   fits_here =
@@ -102,7 +101,7 @@ module _ (file : List ℕ) (place : ℕ) (rests : IsAtRest file place) where
   closed_bodies g tail is = cut_bodies g tail ∙ ap (λ l. bodies_of file ++ l) (bodies-closed g tail is) ∙ append-nil (bodies_of file)
 
   -- a frame behind an open gate
-  module _ (body : List ℕ) (some : 1 ≤ length body) (most : length body ≤ 1048576) (more : List ℕ) where
+  module _ (body : List ℕ) (some : 1 ≤ length body) (most : length body ≤ MAX_BODY) (more : List ℕ) where
     pub open_rests : IsAtRest (front ++ 1 ∷ (packed body ++ 0 ∷ more)) (place + (5 + length body))
     open_rests = record {
       whole = cut_breaks 1 (packed body ++ 0 ∷ more) ∙ breaks-one body some most more;

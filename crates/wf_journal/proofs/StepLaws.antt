@@ -2,6 +2,7 @@
 use Rattle.std.proofs.Common.{◌≡◌, ℕ, zero, suc, ◌+◌, ◌-◌, ◌≤◌, ◌<◌, Bool, true, false, ◌&&◌, ◌==◌, cond, List, [], ◌∷◌, length, take, drop, get_or, refl, sym, ◌∙◌, ap, subst, arith, rules, length-drop}
 use Rattle.std.proofs.lemmas.List.{get_or-take, get_or-drop, drop-drop}
 use Rattle.std.proofs.lemmas.Bool.{cond-true, cond-false}
+use Rattle.std.specs.Int.{w32, from_be_bytes}
 use Rattle.wf_journal.specs.declared.steps.Step.{Step}
 use Rattle.wf_journal.specs.declared.steps.Step.TheVariants.{Closed, Broken, Next}
 use Rattle.wf_journal.specs.Frames.{number_of, fits, bodies_after, end_after, breaks_after, end_of, is_broken, IsAtRest}
@@ -48,9 +49,9 @@ module _ (at : ℕ) (n : ℕ) where
       ap (λ k. step_of at (k ∷ a ∷ b ∷ c ∷ d ∷ rest)) is ∙ cond-false (fits (number_of a b c d) rest) _ _ (ap (λ k. fits_in k (length rest)) (sym num) ∙ ap (fits_in n) (sym space) ∙ f)
 
 -- the field of a length, read behind the gate
-pub field_read : (file bytes : List ℕ) (at : ℕ) → bytes ≡ take 4 (drop (at + 1) file) → number_of (get_or bytes 0 0) (get_or bytes 1 0) (get_or bytes 2 0) (get_or bytes 3 0)
+pub field_read : (file bytes : List ℕ) (at : ℕ) → bytes ≡ take 4 (drop (at + 1) file) → from_be_bytes w32 bytes
     ≡ number_of (get_or (drop at file) 1 0) (get_or (drop at file) 2 0) (get_or (drop at file) 3 0) (get_or (drop at file) 4 0)
-field_read file bytes at is = ap (λ l. number_of (get_or l 0 0) (get_or l 1 0) (get_or l 2 0) (get_or l 3 0)) is ∙ search (rules, read)
+field_read file bytes at is = ap (from_be_bytes w32) is ∙ search (rules, read)
   where
     read : (i : ℕ) → i < 4 → get_or (take 4 (drop (at + 1) file)) i 0 ≡ get_or (drop at file) (i + 1) 0
     read i lt = get_or-take 4 (drop (at + 1) file) i 0 lt ∙ get_or-drop (at + 1) file i 0 ∙ ap (λ k. get_or file k 0) (omega arith) ∙ sym (get_or-drop at file (i + 1) 0)

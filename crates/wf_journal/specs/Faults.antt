@@ -1,5 +1,6 @@
 -- When a journal refuses.
 use Rattle.std.specs.Prelude.{ℕ, ◌+◌, ◌==◌, ◌||◌, Bool, nat_lt, if◌then◌else◌, Option, Some, None}
+use Rattle.wf_model.specs.declared.limits.TheConstants.{MAX_BODY, MAX_JOURNAL}
 use Rattle.wf_disk.specs.declared.disk.WriteRefused.{WriteRefused}
 use Rattle.wf_disk.specs.declared.disk.WriteRefused.TheVariants as write
 use Rattle.wf_journal.specs.declared.fault.StartFault.{StartFault}
@@ -14,4 +15,4 @@ start_fault write.NoMemory = start.NoMemory
 -- why an append of this many bytes is refused before anything is done, in this order
 unfoldable pub refusal_of : Bool → ℕ → ℕ → Option AppendFault
 refusal_of failed place n =
-    if failed then Some Reopen else if (n == 0) || nat_lt 1048576 n then Some TooLong else if nat_lt 536870912 (place + n + 6) then Some Full else None
+    if failed then Some Reopen else if (n == 0) || nat_lt MAX_BODY n then Some TooLong else if nat_lt MAX_JOURNAL (place + n + 6) then Some Full else None

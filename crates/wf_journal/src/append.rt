@@ -1,7 +1,8 @@
 //! The four strokes of an append.
-ghost use Rattle.std.specs.Prelude.{◌≡◌, ◌+◌, ◌≤◌, ◌<◌, ◌++◌, ◌∷◌, [], ℕ, List, Option, Some, OnOk, IsOk, IsErrOf, is_some, length, vec_capacity};
-ghost use Rattle.wf_disk.specs.Disk.{Told, Only, HasCause, IsSafeFor, LeavesOnly};
-ghost use Rattle.wf_journal.specs.Frames.{bodies_of, IsAtRest, IsBeforeOrAfter};
+ghost use Rattle.std.specs.Prelude.{◌≡◌, ◌+◌, ◌≤◌, ◌<◌, ◌∷◌, [], ℕ, List, Some, OnOk, IsOk, IsErrOf, is_some, length, vec_capacity};
+ghost use Rattle.wf_disk.specs.Disk.{HasCause, IsSafeFor, LeavesOnly};
+ghost use Rattle.wf_model.specs.declared.limits.TheConstants.{MAX_BODY, MAX_JOURNAL};
+ghost use Rattle.wf_journal.specs.Frames.{bodies_of, IsBeforeOrAfter};
 ghost use Rattle.wf_journal.specs.Journal.{IsSettled, IsLeft};
 
 use crate::frame::pack;
@@ -15,8 +16,8 @@ pub fn put<D: Disk>(
     room: &mut Vec<u8>,
 ) -> Result<(), WriteRefused>
     requires some { 1 ≤ length body.now }
-    requires most { length body.now ≤ 1048576 }
-    requires fits { place + length body.now + 6 ≤ 536870912 }
+    requires most { length body.now ≤ MAX_BODY }
+    requires fits { place + length body.now + 6 ≤ MAX_JOURNAL }
     requires settled { IsSettled (D.told disk.old) place }
 
     ensures ok { OnOk result (IsLeft (D.told disk.old) (D.told disk.new) (place + (5 + length body.now)) (body.now ∷ [])) }

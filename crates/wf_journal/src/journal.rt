@@ -1,16 +1,18 @@
 //! A journal: bodies that were appended in order, each on the disk before it is acknowledged.
-ghost use Rattle.std.specs.Prelude.{◌≡◌, ◌⊎◌, ◌+◌, ◌≤◌, ◌<◌, ◌∷◌, [], ℕ, List, Bool, true, false, nat_lt, if◌then◌else◌, Option, None, Some, IfSome, is_some, IsNone, IfOk, IfErr, IsOk, OnOk, IsErr, IsErrOf, length};
-ghost use Rattle.wf_disk.specs.Disk.{Told, Only, HasCause, IsSafeFor, LeavesOnly, Rose, IsSame};
+ghost use Rattle.std.specs.Prelude.{◌≡◌, ◌⊎◌, ◌+◌, ◌≤◌, ◌<◌, ◌∷◌, [], ℕ, List, true, false, nat_lt, if◌then◌else◌, Option, None, Some, IfSome, is_some, IsNone, IfOk, IfErr, IsOk, OnOk, IsErr, IsErrOf, length};
+ghost use Rattle.wf_disk.specs.Disk.{HasCause, IsSafeFor, LeavesOnly, IsSame};
 ghost use Rattle.wf_journal.specs.Frames.{bodies_of, is_broken, end_of, IsBeforeOrAfter};
-ghost use Rattle.wf_journal.specs.Journal.{IsSettled, IsLeft, HasBodiesOf, IsPlace, IsRead};
+ghost use Rattle.wf_journal.specs.Journal.{IsLeft, HasBodiesOf, IsPlace, IsRead};
 ghost use Rattle.wf_journal.specs.Faults.{refusal_of};
+ghost use Rattle.wf_journal.specs.State.{IsReady};
 
 use crate::append::put;
 use crate::fault::{AppendFault, ReadFault, StartFault};
-use crate::frame::{MAX_BODY, MAX_FILE};
 use crate::steps::{find_end, read_frame};
 use std::alloc::Global;
+use std::marker::Model;
 use wf_disk::{Arm, Disk, MemDisk, WriteRefused};
+use wf_model::limits::{MAX_BODY, MAX_JOURNAL};
 use wf_model::{Bytes, List as Items, NoMemory};
 
 /// A journal that could not be started, and its disk.
@@ -21,7 +23,8 @@ pub struct JournalRefused<D> {
 }
 
 /// A journal on a disk. A crash at any moment leaves the bodies that were appended, in order, and of an append that
-/// wasn't acknowledged its one body or none.
+/// wasn't acknowledged its one body or none. Contracts see its disk, the place of its closed gate, whether a disk call
+/// of an append failed, and the longest body for which it has room of its own.
 #[derive(Drop)]
 pub struct Journal<D: Disk> {
     disk: D,
@@ -33,14 +36,24 @@ pub struct Journal<D: Disk> {
     alloc: Global,
 }
 
-impl<D: Disk> Journal<D> {
-    ghost use Rattle.wf_journal.specs.State.{IsReady, room_of};
+impl<D: Disk> Model for Journal<D> {
+    ghost use Rattle.std.specs.Prelude.{◌-◌, vec_capacity};
+    ghost use Rattle.wf_journal.specs.State.{Kept, kept_code, IsReady};
 
+    ghost Value = { Kept D };
+
+    ghost coded = { kept_code D.code };
+
+    ghost view = { λ it. record { disk = it.disk; place = it.place; failed = it.failed; room = vec_capacity it.room - 5 } };
+
+    ghost invariant = { λ it. IsReady (D.told it.disk) it.place it.failed };
+}
+
+impl<D: Disk> Journal<D> {
     /// Finds the end of the journal on a disk, or makes a new one on a disk of fewer than two bytes. It syncs first.
     /// A refusal hands the disk back. In linear time in the journal's bytes, with one frame in memory at a time.
     pub fn start(alloc: Global, disk: D) -> Result<Journal<D>, JournalRefused<D>>
         ensures left { IfOk result (λ journal. (journal.failed ≡ false) × IsLeft (D.told disk) (D.told journal.disk) journal.place []) }
-        ensures ready { IfOk result (λ journal. IsReady D.told journal) }
         ensures tells { IfOk result (λ journal. is_some (D.told journal.disk).image ≡ is_some (D.told disk).image) }
         ensures whole { IfOk result (λ _. (file : List ℕ) → (D.told disk).image ≡ Some file → 2 ≤ length file → is_broken file ≡ false) }
         ensures bad { IfErr result (λ refused. (at : ℕ) → refused.fault ≡ StartFault.BadFrame at → (file : List ℕ) → (D.told disk).image ≡ Some file →
@@ -70,13 +83,14 @@ impl<D: Disk> Journal<D> {
     // Why a body of this length is refused before anything is done.
     #[tactic(auto, unfolding(crate::specs::Faults::refusal_of))]
     fn refusal(&self, len: usize) -> Option<AppendFault>
-        ensures { result ≡ refusal_of self.now.failed self.now.place len }
+        ensures why { result ≡ refusal_of self.now.failed self.now.place len }
+        ensures ready { IsReady (D.told self.now.disk) self.now.place self.now.failed }
     {
         if self.failed {
             Some(AppendFault::Reopen)
         } else if len == 0 || MAX_BODY < len as u64 {
             Some(AppendFault::TooLong)
-        } else if MAX_FILE - 6 - (len as u64) < self.place {
+        } else if MAX_JOURNAL - 6 - (len as u64) < self.place {
             Some(AppendFault::Full)
         } else {
             None
@@ -87,9 +101,6 @@ impl<D: Disk> Journal<D> {
     /// and `Full` come in this order, before anything is done. After `NoMemory` the bodies are as before. After
     /// `DiskFailed` the body may stand or not, and each later append answers `Reopen`.
     pub fn append(&mut self, body: &[u8]) -> Result<(), AppendFault>
-        requires ready { IsReady D.told self.old }
-        ensures ready { IsReady D.told self.new }
-
         ensures refused { IfSome (refusal_of self.old.failed self.old.place (length body.now)) (λ fault. (result ≡ Err fault) × (self.new.disk ≡ self.old.disk)) }
         ensures other { IsNone (refusal_of self.old.failed self.old.place (length body.now)) → IfErr result (λ fault. (fault ≡ AppendFault.NoMemory) ⊎ (fault ≡ AppendFault.DiskFailed)) }
         ensures ok { OnOk result (IsLeft (D.told self.old.disk) (D.told self.new.disk) self.new.place (body.now ∷ [])) }
@@ -105,7 +116,7 @@ impl<D: Disk> Journal<D> {
         ensures four { OnOk result ((D.told self.new.disk).clock ≡ (D.told self.old.disk).clock + 4) }
         ensures two { IsErrOf result AppendFault.NoMemory → (D.told self.new.disk).clock ≤ (D.told self.old.disk).clock + 2 }
         ensures good { IsNone (refusal_of self.old.failed self.old.place (length body.now)) → IsSafeFor (D.told self.old.disk) 4 →
-            (D.told self.old.disk).has_room 2 (length body.now + 6) → length body.now ≤ room_of self.old → IsOk result }
+            (D.told self.old.disk).has_room 2 (length body.now + 6) → length body.now ≤ self.old.room → IsOk result }
         ensures cause { HasCause (D.told self.old.disk) (D.told self.new.disk) (IsErrOf result AppendFault.DiskFailed) }
         ensures failed { IsErrOf result AppendFault.DiskFailed → self.new.failed ≡ true }
         ensures not_failed { (IsErrOf result AppendFault.DiskFailed → ⊥) → self.new.failed ≡ self.old.failed }
@@ -143,7 +154,7 @@ impl<D: Disk> Journal<D> {
 
     /// Makes room of its own for an append of at most so many bytes.
     pub fn reserve(&mut self, len: u32) -> Result<(), NoMemory>
-        ensures room { OnOk result (len ≤ room_of self.new) }
+        ensures room { OnOk result (len ≤ self.new.room) }
         ensures disk { self.new.disk ≡ self.old.disk }
         ensures kept { (self.new.place ≡ self.old.place) × (self.new.failed ≡ self.old.failed) }
     {
@@ -154,7 +165,8 @@ impl<D: Disk> Journal<D> {
 
     /// The disk, lent.
     pub fn disk(&self) -> &D
-        ensures { result.now ≡ self.now.disk }
+        ensures disk { result.now ≡ self.now.disk }
+        ensures ready { IsReady (D.told self.now.disk) self.now.place self.now.failed }
     {
         &self.disk
     }
@@ -168,21 +180,18 @@ impl<D: Disk> Journal<D> {
 }
 
 impl Journal<MemDisk> {
-    ghost use Rattle.wf_disk.specs.Memory.{armed, disarmed, told_of};
-    ghost use Rattle.wf_journal.specs.State.{IsReady};
+    ghost use Rattle.wf_disk.specs.Memory.{armed, disarmed};
 
     /// Arms the disk. All else stays. Takes no memory.
     pub fn arm(&mut self, stroke: u32, what: Arm)
-        ensures armed { self.new ≡ record self.old { disk = armed self.old.disk stroke what } }
-        ensures ready { IsReady told_of self.old → IsReady told_of self.new }
+        ensures { self.new ≡ record self.old { disk = armed self.old.disk stroke what } }
     {
         self.disk.arm(stroke, what);
     }
 
     /// Removes the disk's arm. All else stays. Takes no memory.
     pub fn disarm(&mut self)
-        ensures disarmed { self.new ≡ record self.old { disk = disarmed self.old.disk } }
-        ensures ready { IsReady told_of self.old → IsReady told_of self.new }
+        ensures { self.new ≡ record self.old { disk = disarmed self.old.disk } }
     {
         self.disk.disarm();
     }

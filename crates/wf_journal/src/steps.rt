@@ -1,12 +1,12 @@
 //! The walk over the frames of a disk.
-ghost use Rattle.std.specs.Prelude.{◌≡◌, ◌+◌, ◌≤◌, ◌<◌, ℕ, List, Option, Some, IfOk, IfErr, IsErr, IsErrOf, is_some, Bool, true, false, [], nat_lt, if◌then◌else◌, length, drop};
-ghost use Rattle.wf_disk.specs.Disk.{Told, IsSame, HasCause, LeavesOnly};
+ghost use Rattle.std.specs.Prelude.{◌≡◌, ◌+◌, ◌≤◌, ◌<◌, ℕ, List, Option, Some, IfOk, IfErr, IsErr, IsErrOf, is_some, true, false, [], nat_lt, if◌then◌else◌, length, drop};
+ghost use Rattle.wf_disk.specs.Disk.{IsSame, HasCause, LeavesOnly};
 ghost use Rattle.wf_journal.specs.Frames.{IsAtRest, end_of, is_broken};
 ghost use Rattle.wf_journal.specs.Journal.{IsLeft, HasBodiesOf, IsPlace, IsRead};
 ghost use Rattle.wf_journal.specs.StepAt.{step_of};
 
 use crate::fault::{ReadFault, StartFault};
-use crate::frame::{is_fit, is_open, number};
+use crate::frame::{is_fit, is_open};
 use wf_disk::Disk;
 use wf_model::Failed;
 
@@ -38,7 +38,7 @@ pub fn step_at<D: Disk>(disk: &mut D, at: u64, size: u64) -> Result<Step, Failed
     }
     let mut field = [0u8; 4];
     disk.read_at(at + 1, &mut field)?;
-    let len = number(field);
+    let len = u64::from(u32::from_be_bytes(field));
     if is_fit(len, size - at - 5) {
         Ok(Step::Next(at + 5 + len))
     } else {

@@ -127,6 +127,7 @@ fn a_body_is_read(rt: HostRuntime) -> Result<(), Fail> {
     journal.append(&HEAD)?;
     journal.arm(1, Arm::Fail);
     journal.disarm();
+    assert!(rt; !journal.disk().stopped());
     let mut body = List::new(rt.alloc());
     assert_eq!(rt; journal.read(0, &mut body)?, Some(13));
     assert_eq!(rt; body.as_slice(), HEAD.as_slice());

@@ -1,9 +1,9 @@
 use Rattle.std.proofs.Common.{sym, subst}
 use Rattle.wf_disk.specs.Memory.{Held, disarmed, told_of}
-use Rattle.wf_journal.specs.Journal.{IsSettled}
+use Rattle.wf_journal.specs.State.{IsReady}
 use Rattle.wf_journal.proofs.journal.Journal+MemDisk.disarm.Goals as goal
 
-pub returns-clause-ready : goal.returns-clause-ready
-returns-clause-ready c ready fine =
-    let settled : IsSettled (told_of (disarmed c.args.self.now.disk)) c.args.self.now.place = λ file is. let was = ready fine file is in record { rests = was.rests; only = was.only } in
-    subst (λ (disk : Held). IsSettled (told_of disk) c.args.self.now.place) (sym c.disarm.ensures) settled
+pub invariant_of-self : goal.invariant_of-self
+invariant_of-self c =
+    let ready : IsReady (told_of (disarmed c.self.inside.disk)) c.self.inside.place c.self.inside.failed = λ fine file is. let was = c.self.invariant fine file is in record { rests = was.rests; only = was.only } in
+    subst (λ (disk : Held). IsReady (told_of disk) c.self.inside.place c.self.inside.failed) (sym c.disarm.ensures) ready

@@ -1,0 +1,6 @@
+pub mod Spelling
+pub mod Ranges
+pub mod Reading
+pub mod Fields
+pub mod Records
+pub mod Answers

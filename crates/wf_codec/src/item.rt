@@ -1,0 +1,49 @@
+//! Lists: items that are read and spelled one after another.
+ghost use Rattle.std.specs.Prelude.{◌≡◌, ◌++◌, ℕ, List as Listed, Option, None, Result, OnOk, option_copied};
+ghost use Rattle.std.specs.List.{flat_map, AllByRecursion};
+ghost use Rattle.wf_codec.specs.declared.fault.Misfit.{Misfit as MisfitValue};
+ghost use Rattle.wf_codec.specs.Reading.{Gives, items_at};
+ghost use Rattle.wf_codec.specs.Fields.{list_at};
+
+use crate::fault::FieldFault;
+use std::alloc::Global;
+use wf_model::{List, NoMemory};
+
+/// What lists are made of.
+pub trait Read: Drop {
+    /// What reading gives, behind an item or none, where the item's number is to be below a limit.
+    ghost reading: { ℕ → Option Self → Listed ℕ → Result (Self × Listed ℕ) MisfitValue };
+
+    /// The item at the front of the bytes, and the bytes behind it.
+    fn read<'a>(
+        alloc: Global,
+        limit: u32,
+        before: Option<&Self>,
+        bytes: &'a [u8],
+    ) -> Result<(Self, &'a [u8]), FieldFault>
+        ensures { Gives (λ x. (x.0, x.1.now)) result (reading limit (option_copied before.entry) bytes.now) };
+}
+
+/// So many items. Room is taken only for items that are there. Linear in the bytes that are read.
+pub fn items_of<'a, T: Read>(
+    alloc: Global,
+    limit: u32,
+    count: u32,
+    bytes: &'a [u8],
+) -> Result<(List<T>, &'a [u8]), FieldFault>
+    ensures { Gives (λ x. (x.0, x.1.now)) result (items_at (T.reading limit) count None bytes.now) }
+{
+    Err(FieldFault::NoMemory)
+}
+
+/// A list behind its count, which is below `bound`.
+pub fn list_of<'a, T: Read>(
+    alloc: Global,
+    limit: u32,
+    bound: u32,
+    bytes: &'a [u8],
+) -> Result<(List<T>, &'a [u8]), FieldFault>
+    ensures { Gives (λ x. (x.0, x.1.now)) result (list_at (T.reading limit) bound bytes.now) }
+{
+    Err(FieldFault::NoMemory)
+}

@@ -1,0 +1,15 @@
+//! The bytes of updates and of journal records. Each value has one spelling; whatever bytes come, the answer is the value that begins them,
+//! or the first field that is wrong, or that they are too few.
+#![tactic(auto)]
+
+mod fault;
+mod field;
+mod item;
+mod record;
+mod spelling;
+mod update;
+mod value;
+
+pub use fault::{CodecFault, RecordFault};
+pub use record::{JournalRecord, decode_record, encode_record};
+pub use update::{decode, encode};

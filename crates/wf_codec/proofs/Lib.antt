@@ -1,0 +1,9 @@
+pub mod Readers
+pub mod Numbers
+pub mod Lists
+pub mod Values
+pub mod Items
+pub mod Outers
+pub mod Updates
+pub mod Decoded
+pub mod Records

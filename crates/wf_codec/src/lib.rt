@@ -5,11 +5,13 @@
 mod fault;
 mod field;
 mod item;
+mod laws;
 mod record;
 mod spelling;
 mod update;
 mod value;
 
 pub use fault::{CodecFault, RecordFault};
+pub use laws::{one_record, one_spelling, record_is_decoded, spelled_is_decoded};
 pub use record::{JournalRecord, decode_record, encode_record};
 pub use update::{decode, encode};

@@ -21,10 +21,10 @@ use Rattle.wf_codec.proofs.Values.{Reads-value}
 -- ---- numbers that ascend
 
 -- a number over that of the item before it, and below a limit
-abbrev pub IsNext : {A : Type 0} → (A → ℕ) → ℕ → Option A → A → Type 0
+abbrev IsNext : {A : Type 0} → (A → ℕ) → ℕ → Option A → A → Type 0
 IsNext number limit before x = IsWithin (least_after number before) limit (number x)
 
-pub ascends : {A : Type 0} (number : A → ℕ) (limit : ℕ) → IsSplit (IsNext number limit) (λ x. number x < limit) (λ x y. number x < number y)
+ascends : {A : Type 0} (number : A → ℕ) (limit : ℕ) → IsSplit (IsNext number limit) (λ x. number x < limit) (λ x y. number x < number y)
 ascends number limit = record {
   alone = λ x fit. fit.1;
   behind = λ x y fit. (fit.1, omega (arith, fit.0));
@@ -33,7 +33,7 @@ ascends number limit = record {
 }
 
 -- the same, of items of which more holds
-pub ascends_held : {A : Type 0} (number : A → ℕ) (limit : ℕ) (Held : A → Type 0) → IsSplit (λ before x. IsNext number limit before x × Held x) (λ x. (number x < limit) × Held x) (λ x y. number x < number y)
+ascends_held : {A : Type 0} (number : A → ℕ) (limit : ℕ) (Held : A → Type 0) → IsSplit (λ before x. IsNext number limit before x × Held x) (λ x. (number x < limit) × Held x) (λ x y. number x < number y)
 ascends_held number limit Held = record {
   alone = λ x fit. (fit.0.1, fit.1);
   behind = λ x y fit. ((fit.0.1, fit.1), omega (arith, fit.0.0));
@@ -41,24 +41,42 @@ ascends_held number limit Held = record {
   next = λ x y fit over. ((omega (arith, over), fit.0), fit.1);
 }
 
-pub Reads-state : (before : Option StateId) → Reads (state_at MAX_STATES before) state_text (IsNext (λ s. s.0) MAX_STATES before)
+abbrev pub IsNextState : Option StateId → StateId → Type 0
+IsNextState before s = IsNext (λ x. x.0) MAX_STATES before s
+
+pub states_split : IsSplit IsNextState (λ s. s.0 < MAX_STATES) (λ x y. x.0 < y.0)
+states_split = ascends (λ (s : StateId). s.0) MAX_STATES
+
+pub Reads-state : (before : Option StateId) → Reads (state_at MAX_STATES before) state_text (IsNextState before)
 unfolding state_at
 Reads-state before =
-    Reads-as state_text (IsNext (λ s. s.0) MAX_STATES before)
+    Reads-as state_text (IsNextState before)
     (Reads-of (λ (s : StateId). s.0) (λ n. record { 0 = n }) (Reads-two (least_after (λ s. s.0) before) MAX_STATES (omega arith)) (λ n fit. refl))
     (λ s fit. refl) (λ s fit. fit.0) (λ s fit. (fit, refl))
 
-pub Reads-event : (before : Option EventId) → Reads (event_at MAX_EVENTS before) event_text (IsNext (λ e. e.0) MAX_EVENTS before)
+abbrev pub IsNextEvent : Option EventId → EventId → Type 0
+IsNextEvent before e = IsNext (λ x. x.0) MAX_EVENTS before e
+
+pub events_split : IsSplit IsNextEvent (λ e. e.0 < MAX_EVENTS) (λ x y. x.0 < y.0)
+events_split = ascends (λ (e : EventId). e.0) MAX_EVENTS
+
+pub Reads-event : (before : Option EventId) → Reads (event_at MAX_EVENTS before) event_text (IsNextEvent before)
 unfolding event_at
 Reads-event before =
-    Reads-as event_text (IsNext (λ e. e.0) MAX_EVENTS before)
+    Reads-as event_text (IsNextEvent before)
     (Reads-of (λ (e : EventId). e.0) (λ n. record { 0 = n }) (Reads-two (least_after (λ e. e.0) before) MAX_EVENTS (omega arith)) (λ n fit. refl))
     (λ e fit. refl) (λ e fit. fit.0) (λ e fit. (fit, refl))
 
-pub Reads-trans : (before : Option TransId) → Reads (trans_at MAX_TRANSITIONS before) trans_text (IsNext (λ t. t.0) MAX_TRANSITIONS before)
+abbrev pub IsNextTrans : Option TransId → TransId → Type 0
+IsNextTrans before t = IsNext (λ x. x.0) MAX_TRANSITIONS before t
+
+pub transitions_split : IsSplit IsNextTrans (λ t. t.0 < MAX_TRANSITIONS) (λ x y. x.0 < y.0)
+transitions_split = ascends (λ (t : TransId). t.0) MAX_TRANSITIONS
+
+pub Reads-trans : (before : Option TransId) → Reads (trans_at MAX_TRANSITIONS before) trans_text (IsNextTrans before)
 unfolding trans_at
 Reads-trans before =
-    Reads-as trans_text (IsNext (λ t. t.0) MAX_TRANSITIONS before)
+    Reads-as trans_text (IsNextTrans before)
     (Reads-of (λ (t : TransId). t.0) (λ n. record { 0 = n }) (Reads-two (least_after (λ t. t.0) before) MAX_TRANSITIONS (omega arith)) (λ n fit. refl))
     (λ t fit. refl) (λ t fit. fit.0) (λ t fit. (fit, refl))
 
@@ -69,6 +87,9 @@ IsHeldWrite w = (w.trans.0 < MAX_TRANSITIONS) × IsHeldValue w.val
 
 abbrev pub IsNextWrite : Option Write → Write → Type 0
 IsNextWrite before w = IsNext (λ x. x.var.0) MAX_VARS before w × IsHeldWrite w
+
+pub writes_split : IsSplit IsNextWrite (λ w. (w.var.0 < MAX_VARS) × IsHeldWrite w) (λ w x. w.var.0 < x.var.0)
+writes_split = ascends_held (λ w. w.var.0) MAX_VARS IsHeldWrite
 
 pub Reads-write : (before : Option Write) → Reads (write_at MAX_VARS before) write_text (IsNextWrite before)
 unfolding write_at

@@ -45,22 +45,22 @@ items_again {A} item text Fit reads before (x ∷ xs) rest fits =
     ∙ ap (λ (r : Result (A × List ℕ) Misfit). r >>= λ first. items_at item (length xs) (Some first.0) first.1 >>= λ others. Ok (first.0 ∷ others.0, others.1)) ((reads before).again x (flat_map text xs ++ rest) fits.0)
     ∙ ap (λ (r : Result (List A × List ℕ) Misfit). r >>= λ others. Ok (x ∷ others.0, others.1)) (items_again item text Fit reads (Some x) xs rest fits.1)
 
-pub Reads-items : {A : Type 0} (item : Option A → List ℕ → Result (A × List ℕ) Misfit) (text : A → List ℕ) (Fit : Option A → A → Type 0)
+pub Reads-items : {A : Type 0} {item : Option A → List ℕ → Result (A × List ℕ) Misfit} {text : A → List ℕ} {Fit : Option A → A → Type 0}
     → ((before : Option A) → Reads (item before) text (Fit before)) → (n : ℕ) (before : Option A)
     → Reads (items_at item n before) (flat_map text) (λ xs. (length xs ≡ n) × EachFits Fit before xs)
-Reads-items {A} item text Fit reads n before = record {
+Reads-items {A} {item} {text} {Fit} reads n before = record {
   takes = items_take item text Fit reads n before;
   again = λ xs rest fit. ap (λ (k : ℕ). items_at item k before (flat_map text xs ++ rest)) (sym fit.0) ∙ items_again item text Fit reads before xs rest fit.1;
 }
 
 -- a list behind its count
-pub Reads-list : {A : Type 0} (item : Option A → List ℕ → Result (A × List ℕ) Misfit) (text : A → List ℕ) (Fit : Option A → A → Type 0)
+pub Reads-list : {A : Type 0} {item : Option A → List ℕ → Result (A × List ℕ) Misfit} {text : A → List ℕ} {Fit : Option A → A → Type 0}
     → ((before : Option A) → Reads (item before) text (Fit before)) → (bound : ℕ) → bound ≤ 2 ^ 16
     → Reads (list_at item bound) (listed text) (λ xs. (length xs < bound) × EachFits Fit None xs)
 unfolding list_at
-Reads-list {A} item text Fit reads bound small =
+Reads-list {A} {item} {text} {Fit} reads bound small =
     Reads-as (listed text) (λ xs. (length xs < bound) × EachFits Fit None xs)
-    (Reads-then length (Reads-two 0 bound small) (λ n fit. Reads-items item text Fit reads n None) (λ n xs fit fits. fits.0))
+    (Reads-then length (Reads-two 0 bound small) (λ n fit. Reads-items reads n None) (λ n xs fit fits. fits.0))
     (λ xs fit. refl) (λ xs fit. (fit.0.1, fit.1.1)) (λ xs fit. ((omega arith, fit.0), (refl, fit.1)))
 
 -- ---- each item, and each pair of neighbours
@@ -72,30 +72,30 @@ pub record IsSplit {A : Type 0} (Fit : Option A → A → Type 0) (Each : A → 
   pub first : (x : A) → Each x → Fit None x
   pub next : (x y : A) → Each y → Before x y → Fit (Some x) y
 
-in_order_behind : {A : Type 0} (Fit : Option A → A → Type 0) (Each : A → Type 0) (Before : A → A → Type 0) → IsSplit Fit Each Before
+in_order_behind : {A : Type 0} {Fit : Option A → A → Type 0} {Each : A → Type 0} {Before : A → A → Type 0} → IsSplit Fit Each Before
     → (x : A) (ys : List A) → EachFits Fit (Some x) ys → AllByRecursion Each ys × InOrder Before (x ∷ ys)
-in_order_behind Fit Each Before split x [] fits = (tt, tt)
-in_order_behind Fit Each Before split x (y ∷ ys) fits =
+in_order_behind split x [] fits = (tt, tt)
+in_order_behind split x (y ∷ ys) fits =
     let one = split.behind x y fits.0 in
-    let others = in_order_behind Fit Each Before split y ys fits.1 in
+    let others = in_order_behind split y ys fits.1 in
     ((one.0, others.0), (one.1, others.1))
 
-pub in_order : {A : Type 0} (Fit : Option A → A → Type 0) (Each : A → Type 0) (Before : A → A → Type 0) → IsSplit Fit Each Before
+pub in_order : {A : Type 0} {Fit : Option A → A → Type 0} {Each : A → Type 0} {Before : A → A → Type 0} → IsSplit Fit Each Before
     → (xs : List A) → EachFits Fit None xs → AllByRecursion Each xs × InOrder Before xs
-in_order Fit Each Before split [] fits = (tt, tt)
-in_order Fit Each Before split (x ∷ xs) fits =
-    let others = in_order_behind Fit Each Before split x xs fits.1 in
+in_order split [] fits = (tt, tt)
+in_order split (x ∷ xs) fits =
+    let others = in_order_behind split x xs fits.1 in
     ((split.alone x fits.0, others.0), others.1)
 
-each_fits_behind : {A : Type 0} (Fit : Option A → A → Type 0) (Each : A → Type 0) (Before : A → A → Type 0) → IsSplit Fit Each Before
+each_fits_behind : {A : Type 0} {Fit : Option A → A → Type 0} {Each : A → Type 0} {Before : A → A → Type 0} → IsSplit Fit Each Before
     → (x : A) (ys : List A) → AllByRecursion Each ys → InOrder Before (x ∷ ys) → EachFits Fit (Some x) ys
-each_fits_behind Fit Each Before split x [] each order = tt
-each_fits_behind Fit Each Before split x (y ∷ ys) each order = (split.next x y each.0 order.0, each_fits_behind Fit Each Before split y ys each.1 order.1)
+each_fits_behind split x [] each order = tt
+each_fits_behind split x (y ∷ ys) each order = (split.next x y each.0 order.0, each_fits_behind split y ys each.1 order.1)
 
-pub each_fits : {A : Type 0} (Fit : Option A → A → Type 0) (Each : A → Type 0) (Before : A → A → Type 0) → IsSplit Fit Each Before
+pub each_fits : {A : Type 0} {Fit : Option A → A → Type 0} {Each : A → Type 0} {Before : A → A → Type 0} → IsSplit Fit Each Before
     → (xs : List A) → AllByRecursion Each xs → InOrder Before xs → EachFits Fit None xs
-each_fits Fit Each Before split [] each order = tt
-each_fits Fit Each Before split (x ∷ xs) each order = (split.first x each.0, each_fits_behind Fit Each Before split x xs each.1 order)
+each_fits split [] each order = tt
+each_fits split (x ∷ xs) each order = (split.first x each.0, each_fits_behind split x xs each.1 order)
 
 -- ---- items that follow one another in any order
 

@@ -9,7 +9,7 @@ use Rattle.wf_model.specs.declared.outer.Outer.TheVariants.{Happen, Complete}
 use Rattle.wf_codec.specs.declared.fault.Misfit.{Misfit}
 use Rattle.wf_codec.specs.Spelling.{two, four, output_text, outer_text}
 use Rattle.wf_codec.specs.Ranges.{IsOuter, IsHeldOuter, IsHeldValue}
-use Rattle.wf_codec.specs.Fields.{output_at, happening_at, completion_at, outer_at}
+use Rattle.wf_codec.specs.Fields.{happening_at, completion_at, outer_at}
 use Rattle.wf_codec.proofs.Readers.{Reads, Reads-then, Reads-as, Reads-of}
 use Rattle.wf_codec.proofs.Numbers.{IsWithin, one_byte, Reads-byte, Reads-two, Reads-number, wide32}
 use Rattle.wf_codec.proofs.Lists.{EachFits, Reads-items, each_alone, all_fit, all_both, all_as}
@@ -63,28 +63,17 @@ AreParts limit o =
     × (((length (outputs_of o) ≡ length (outputs_of o)) × EachFits (λ b. IsOutput limit) None (outputs_of o)) × (o ≡ Complete (item_of o) (record { 0 = number_of o }) (outputs_of o)))))
 
 completion_is : (limit : ℕ) (o : Outer) → AreParts limit o → IsOfKind limit 1 o
-completion_is limit o fit =
-    let each = each_alone (IsOutput limit) None (outputs_of o) fit.1.1.1.0.1 in
-    subst (λ (p : Outer). IsOfKind limit 1 p) (sym fit.1.1.1.1) (
-      refl,
-      (
-        (fit.0.0, fit.1.0.1, omega (arith, fit.1.1.0.1), all_as (IsOutput limit) (λ p. p.var.0 < limit) (λ p h. h.0) (outputs_of o) each),
-        (fit.0.1, all_as (IsOutput limit) (λ p. IsHeldValue p.val) (λ p h. h.1) (outputs_of o) each),
-      ),
-    )
+completion_is limit o (item, (act, (count, ((len, fits), same)))) =
+    let each = each_alone (IsOutput limit) None (outputs_of o) fits in
+    let below = all_as (IsOutput limit) (λ p. p.var.0 < limit) (λ p h. h.0) (outputs_of o) each in
+    let held = all_as (IsOutput limit) (λ p. IsHeldValue p.val) (λ p h. h.1) (outputs_of o) each in
+    subst (λ (p : Outer). IsOfKind limit 1 p) (sym same) (refl, ((item.0, act.1, omega (arith, count.1), below), (item.1, held)))
 
 completion_fits : (limit : ℕ) (o : Outer) → IsOfKind limit 1 o → AreParts limit o
 completion_fits limit (Happen e) h = absurd (omega arith)
-completion_fits limit (Complete item act outputs) h = (
-  (h.1.0.0, h.1.1.0),
-  (
-    (omega arith, h.1.0.1),
-    (
-      (omega arith, omega (arith, h.1.0.2)),
-      ((refl, all_fit (IsOutput limit) None outputs (all_both (λ p. p.var.0 < limit) (λ p. IsHeldValue p.val) outputs h.1.0.3 h.1.1.1)), refl),
-    ),
-  ),
-)
+completion_fits limit (Complete item act outputs) (kind, (ranges, held)) =
+    let each = all_both (λ p. p.var.0 < limit) (λ p. IsHeldValue p.val) outputs ranges.3 held.1 in
+    ((ranges.0, held.0), ((omega arith, ranges.1), ((omega arith, omega (arith, ranges.2)), ((refl, all_fit (IsOutput limit) None outputs each), refl))))
 
 Reads-completion : (limit : ℕ) → limit ≤ 2 ^ 16 → Reads (completion_at limit) behind_kind (IsOfKind limit 1)
 unfolding completion_at
@@ -94,7 +83,7 @@ Reads-completion limit small =
     (λ item item_fits. Reads-then number_of (Reads-two 0 limit small)
     (λ act act_fits. Reads-then (λ (o : Outer). length (outputs_of o)) (Reads-byte 0 (MAX_OUTPUTS + 1))
     (λ n n_fits. Reads-of outputs_of (λ outputs. Complete item (record { 0 = act }) outputs)
-    (Reads-items (output_at limit) output_text (λ b. IsOutput limit) (Reads-output limit small) n None) (λ outputs fit. refl))
+    (Reads-items (Reads-output limit small) n None) (λ outputs fit. refl))
     (λ n o fit fits. fits.0.0))
     (λ act o fit fits. ap number_of fits.1.1))
     (λ item o fit fits. ap item_of fits.1.1.1))

@@ -16,7 +16,6 @@ use Rattle.wf_codec.specs.declared.record.JournalRecord.{JournalRecord}
 use Rattle.wf_codec.specs.declared.record.JournalRecord.TheVariants.{Head, Admit, Turn}
 use Rattle.wf_codec.specs.Spelling.{two, four, eight, outer_text, spelling_of}
 use Rattle.wf_codec.specs.Ranges.{IsInRange, IsHeld, IsUpdate}
-use Rattle.wf_codec.specs.Fields.{update_at}
 use Rattle.wf_codec.specs.Records.{is_head_char, named, record_text, IsHeadName, IsRecord, head_char_at, head_name_at, head_at, admit_at, turn_at, record_at, whole, record_of}
 use Rattle.wf_codec.specs.Answers.{AnswersRecord}
 use Rattle.wf_codec.proofs.Readers.{IsBytes, IsBytes-rest, ok_is, Takes, Reads, Reads-then, Reads-as, Reads-of}
@@ -44,7 +43,7 @@ Reads-name : Reads head_name_at named IsHeadName
 unfolding head_name_at
 Reads-name =
     Reads-as named IsHeadName
-    (Reads-then length (Reads-byte 1 (MAX_NAME + 1)) (λ n fit. Reads-items head_char_at one_byte (λ b c. IsTrue (is_head_char c)) Reads-char n None) (λ n cs fit fits. fits.0))
+    (Reads-then length (Reads-byte 1 (MAX_NAME + 1)) (λ n fit. Reads-items Reads-char n None) (λ n cs fit fits. fits.0))
     (λ cs fit. ap (λ (s : List ℕ). length cs ∷ s) (each_one_byte cs))
     (λ cs fit. (fit.0.0, omega (arith, fit.0.1), all_pass is_head_char None cs fit.1.1))
     (λ cs fit. ((fit.0, omega (arith, fit.1)), (refl, each_passes is_head_char None cs fit.2)))
@@ -85,10 +84,12 @@ abbrev AreHeadParts : JournalRecord → Type 0
 AreHeadParts r = IsWithin 1 2 (version_of r) × (IsHeadName (chart_of r) × (IsHeadName (unit_of r) × (r ≡ Head (version_of r) (chart_of r) (unit_of r))))
 
 head_is : (r : JournalRecord) → AreHeadParts r → IsTagged 72 r
-head_is r fit = subst (λ (s : JournalRecord). IsTagged 72 s) (sym fit.1.1.1) (refl, ((omega (arith, fit.0.0, fit.0.1), fit.1.0, fit.1.1.0), tt))
+head_is r (version, (chart, (unit, same))) =
+    let one : version_of r ≡ 1 = omega (arith, version.0, version.1) in
+    subst (λ (s : JournalRecord). IsTagged 72 s) (sym same) (refl, ((one, chart, unit), tt))
 
 head_fits : (r : JournalRecord) → IsTagged 72 r → AreHeadParts r
-head_fits (Head version chart unit) h = ((omega (arith, h.1.0.0), omega (arith, h.1.0.0)), (h.1.0.1, (h.1.0.2, refl)))
+head_fits (Head version chart unit) (tag, (ranges, held)) = ((omega (arith, ranges.0), omega (arith, ranges.0)), (ranges.1, (ranges.2, refl)))
 head_fits (Admit request outer) h = absurd (omega arith)
 head_fits (Turn step inputs sealed) h = absurd (omega arith)
 
@@ -123,11 +124,11 @@ abbrev AreAdmitParts : JournalRecord → Type 0
 AreAdmitParts r = IsWithin 0 (2 ^ 64) (request_of r) × (IsWhole (2 ^ 16) (outer_of r) × (r ≡ Admit (request_of r) (outer_of r)))
 
 admit_is : (r : JournalRecord) → AreAdmitParts r → IsTagged 65 r
-admit_is r fit = subst (λ (s : JournalRecord). IsTagged 65 s) (sym fit.1.1) (refl, (fit.1.0.0, (fit.0.1, fit.1.0.1)))
+admit_is r (request, (outer, same)) = subst (λ (s : JournalRecord). IsTagged 65 s) (sym same) (refl, (outer.0, (request.1, outer.1)))
 
 admit_fits : (r : JournalRecord) → IsTagged 65 r → AreAdmitParts r
 admit_fits (Head version chart unit) h = absurd (omega arith)
-admit_fits (Admit request outer) h = ((omega arith, h.1.1.0), ((h.1.0, h.1.1.1), refl))
+admit_fits (Admit request outer) (tag, (ranges, held)) = ((omega arith, held.0), ((ranges, held.1), refl))
 admit_fits (Turn step inputs sealed) h = absurd (omega arith)
 
 Reads-admit : Reads admit_at behind_tag (IsTagged 65)
@@ -179,17 +180,18 @@ AreTurnParts r =
     × (IsWithin 0 (2 ^ 16) (sealed_of r) × (r ≡ Turn (step_of r) (inputs_of r) (sealed_of r)))))
 
 turn_is : (r : JournalRecord) → AreTurnParts r → IsTagged 84 r
-turn_is r fit =
-    let each = in_order IsNextUpdate IsUpdate (λ u v. u.from.0 < v.from.0) updates_split (inputs_of r) fit.1.1.0.1 in
-    subst (λ (s : JournalRecord). IsTagged 84 s) (sym fit.1.1.1.1)
-    (refl, ((all_as IsUpdate IsInRange (λ u p. p.0) (inputs_of r) each.0, each.1, fit.1.1.1.0.1), (fit.0.1, all_as IsUpdate IsHeld (λ u p. p.1) (inputs_of r) each.0)))
+turn_is r (step, (count, ((len, fits), (sealed, same)))) =
+    let each = in_order updates_split (inputs_of r) fits in
+    let ranges = all_as IsUpdate IsInRange (λ u p. p.0) (inputs_of r) each.0 in
+    let held = all_as IsUpdate IsHeld (λ u p. p.1) (inputs_of r) each.0 in
+    subst (λ (s : JournalRecord). IsTagged 84 s) (sym same) (refl, ((ranges, each.1, sealed.1), (step.1, held)))
 
 turn_fits : (r : JournalRecord) → IsTagged 84 r → AreTurnParts r
 turn_fits (Head version chart unit) h = absurd (omega arith)
 turn_fits (Admit request outer) h = absurd (omega arith)
-turn_fits (Turn step inputs sealed) h =
-    let each = each_fits IsNextUpdate IsUpdate (λ u v. u.from.0 < v.from.0) updates_split inputs (all_both IsInRange IsHeld inputs h.1.0.0 h.1.1.1) h.1.0.1 in
-    ((omega arith, h.1.1.0), ((omega arith, few_inputs inputs each), ((refl, each), ((omega arith, h.1.0.2), refl))))
+turn_fits (Turn step inputs sealed) (tag, (ranges, held)) =
+    let each = each_fits updates_split inputs (all_both IsInRange IsHeld inputs ranges.0 held.1) ranges.1 in
+    ((omega arith, held.0), ((omega arith, few_inputs inputs each), ((refl, each), ((omega arith, ranges.2), refl))))
 
 Reads-turn : Reads turn_at behind_tag (IsTagged 84)
 unfolding turn_at
@@ -197,7 +199,7 @@ Reads-turn =
     Reads-as behind_tag (IsTagged 84)
     (Reads-then step_of (Reads-number w32 (2 ^ 32) wide32 0 (2 ^ 32) (omega arith))
     (λ step step_fits. Reads-then (λ (r : JournalRecord). length (inputs_of r)) (Reads-byte 0 256)
-    (λ n n_fits. Reads-then inputs_of (Reads-items (update_at MAX_UNITS) spelling_of IsNextUpdate Reads-update n None)
+    (λ n n_fits. Reads-then inputs_of (Reads-items Reads-update n None)
     (λ inputs inputs_fit. Reads-of sealed_of (λ sealed. Turn step inputs sealed) (Reads-two 0 (2 ^ 16) (omega arith)) (λ sealed fit. refl))
     (λ inputs r fit fits. ap inputs_of fits.1))
     (λ n r fit fits. fits.0.0))

@@ -145,7 +145,7 @@ unfolding value_of_sort
 Reads-text sort lt =
     Reads-as behind_sort (IsOfSort (suc (suc sort)))
     (Reads-then (λ x. length (chars_of x)) (Reads-byte 0 (MAX_TEXT + 1))
-    (λ n fit. Reads-of chars_of v.Text (Reads-items char_at one_byte (λ b c. IsTrue (is_text_char c)) Reads-char n None) (λ cs fits. refl))
+    (λ n fit. Reads-of chars_of v.Text (Reads-items Reads-char n None) (λ cs fits. refl))
     (λ n x fit fits. fits.0.0))
     (λ x fit. ap (λ (cs : List ℕ). length (chars_of x) ∷ cs) (each_one_byte (chars_of x)) ∙ subst (λ (y : Val). length (chars_of y) ∷ chars_of y ≡ behind_sort y) (sym fit.1.1) refl)
     (λ x fit. subst (λ (y : Val). IsOfSort (suc (suc sort)) y) (sym fit.1.1) (omega arith, (omega (arith, fit.0.1), all_pass is_text_char None (chars_of x) fit.1.0.1)))

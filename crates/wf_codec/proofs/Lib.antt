@@ -1,0 +1,4 @@
+pub mod Going
+pub mod GoingFields
+pub mod GoingFar
+pub mod Final

@@ -3,6 +3,7 @@
 #![tactic(auto)]
 
 mod fault;
+mod faults;
 mod field;
 mod item;
 mod record;
@@ -11,5 +12,6 @@ mod update;
 mod value;
 
 pub use fault::{CodecFault, RecordFault};
+pub use faults::{answer_is_final, fault_is_first, front_is_short, short_goes_on};
 pub use record::{JournalRecord, decode_record, encode_record};
 pub use update::{decode, encode};

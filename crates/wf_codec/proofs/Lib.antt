@@ -7,3 +7,7 @@ pub mod Outers
 pub mod Updates
 pub mod Decoded
 pub mod Records
+pub mod Going
+pub mod GoingFields
+pub mod GoingFar
+pub mod Final

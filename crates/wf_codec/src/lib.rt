@@ -3,6 +3,7 @@
 #![tactic(auto)]
 
 mod fault;
+mod faults;
 mod field;
 mod item;
 mod laws;
@@ -13,5 +14,6 @@ mod value;
 
 pub use fault::{CodecFault, RecordFault};
 pub use laws::{one_record, one_spelling, record_is_decoded, spelled_is_decoded};
+pub use faults::{answer_is_final, fault_is_first, front_is_short, short_goes_on};
 pub use record::{JournalRecord, decode_record, encode_record};
 pub use update::{decode, encode};

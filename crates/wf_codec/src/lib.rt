@@ -3,8 +3,8 @@
 #![tactic(auto)]
 
 mod fault;
-mod faults;
 mod field;
+mod finality;
 mod item;
 mod laws;
 mod record;
@@ -13,7 +13,7 @@ mod update;
 mod value;
 
 pub use fault::{CodecFault, RecordFault};
+pub use finality::{answer_is_final, fault_is_first, front_is_short, short_goes_on};
 pub use laws::{one_record, one_spelling, record_is_decoded, spelled_is_decoded};
-pub use faults::{answer_is_final, fault_is_first, front_is_short, short_goes_on};
 pub use record::{JournalRecord, decode_record, encode_record};
 pub use update::{decode, encode};

@@ -4,3 +4,4 @@ pub mod Reading
 pub mod Fields
 pub mod Records
 pub mod Answers
+pub mod Parts

@@ -5,7 +5,11 @@
 mod fault;
 mod field;
 mod item;
+mod number;
 mod record;
+mod room;
+mod spelled;
+mod spelled_record;
 mod spelling;
 mod update;
 mod value;
@@ -13,3 +17,6 @@ mod value;
 pub use fault::{CodecFault, RecordFault};
 pub use record::{JournalRecord, decode_record, encode_record};
 pub use update::{decode, encode};
+
+#[cfg(test)]
+mod spelling_tests;

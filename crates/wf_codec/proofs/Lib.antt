@@ -11,3 +11,5 @@ pub mod Going
 pub mod GoingFields
 pub mod GoingFar
 pub mod Final
+pub mod Parts
+pub mod Fits

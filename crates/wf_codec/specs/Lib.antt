@@ -5,3 +5,4 @@ pub mod Fields
 pub mod Records
 pub mod Answers
 pub mod Finality
+pub mod Parts

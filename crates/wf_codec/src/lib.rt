@@ -7,7 +7,11 @@ mod field;
 mod finality;
 mod item;
 mod laws;
+mod number;
 mod record;
+mod room;
+mod spelled;
+mod spelled_record;
 mod spelling;
 mod update;
 mod value;
@@ -17,3 +21,6 @@ pub use finality::{answer_is_final, fault_is_first, front_is_short, short_goes_o
 pub use laws::{one_record, one_spelling, record_is_decoded, spelled_is_decoded};
 pub use record::{JournalRecord, decode_record, encode_record};
 pub use update::{decode, encode};
+
+#[cfg(test)]
+mod spelling_tests;

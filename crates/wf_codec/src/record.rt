@@ -5,6 +5,8 @@ ghost use Rattle.wf_codec.specs.Answers.{AnswersRecord};
 ghost use Rattle.wf_codec.specs.declared.record.JournalRecord.{JournalRecord as RecordValue};
 
 use crate::fault::RecordFault;
+use crate::room::record_room;
+use crate::spelling::spell_whole;
 use std::alloc::Global;
 use wf_model::{Bytes, List, Name, NoMemory, Outer, Update};
 
@@ -35,7 +37,7 @@ pub fn encode_record(alloc: Global, entry: &JournalRecord) -> Result<Bytes, NoMe
     requires { IsRecordInRange entry.now }
     ensures { IfOk result (λ bytes. bytes ≡ record_text entry.now) }
 {
-    Err(NoMemory)
+    spell_whole(alloc, record_room(entry), entry)
 }
 
 /// The record that has this body, the whole of it. Linear in the body.

@@ -7,6 +7,8 @@ ghost use Rattle.wf_codec.specs.Answers.{Answers};
 ghost use Rattle.wf_model.specs.declared.update.Update.{Update as UpdateValue};
 
 use crate::fault::CodecFault;
+use crate::room::update_room;
+use crate::spelling::spell_whole;
 use std::alloc::Global;
 use wf_model::{Bytes, NoMemory, Update};
 
@@ -15,7 +17,7 @@ pub fn encode(alloc: Global, update: &Update) -> Result<Bytes, NoMemory>
     requires { IsInRange update.now }
     ensures { IfOk result (λ bytes. bytes ≡ spelling_of update.now) }
 {
-    Err(NoMemory)
+    spell_whole(alloc, update_room(update), update)
 }
 
 /// The update that begins the bytes, and how many of them spell it. Bytes may follow it. Linear in the bytes that spell it, and no memory

@@ -6,6 +6,7 @@ ghost use Rattle.wf_codec.specs.Reading.{Gives, items_at};
 ghost use Rattle.wf_codec.specs.Fields.{list_at};
 
 use crate::fault::FieldFault;
+use crate::field::u16_in;
 use std::alloc::Global;
 use wf_model::{List, NoMemory};
 
@@ -33,10 +34,18 @@ pub fn items_of<'a, T: Read>(
 ) -> Result<(List<T>, &'a [u8]), FieldFault>
     ensures { Gives (λ x. (x.0, x.1.now)) result (items_at (T.reading limit) count None bytes.now) }
 {
-    Err(FieldFault::NoMemory)
+    let mut items: List<T> = List::new(alloc);
+    let mut rest = bytes;
+    for _ in 0..count {
+        let (item, after) = T::read(alloc, limit, items.as_slice().last(), rest)?;
+        items.push(item)?;
+        rest = after;
+    }
+    Ok((items, rest))
 }
 
 /// A list behind its count, which is below `bound`.
+#[tactic(auto, unfolding(crate::specs::Fields::list_at))]
 pub fn list_of<'a, T: Read>(
     alloc: Global,
     limit: u32,
@@ -45,5 +54,6 @@ pub fn list_of<'a, T: Read>(
 ) -> Result<(List<T>, &'a [u8]), FieldFault>
     ensures { Gives (λ x. (x.0, x.1.now)) result (list_at (T.reading limit) bound bytes.now) }
 {
-    Err(FieldFault::NoMemory)
+    let (count, rest) = u16_in(bytes, 0, u64::from(bound))?;
+    items_of(alloc, limit, count, rest)
 }

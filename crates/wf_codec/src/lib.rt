@@ -2,9 +2,11 @@
 //! or the first field that is wrong, or that they are too few.
 #![tactic(auto)]
 
+mod entries;
 mod fault;
 mod field;
 mod item;
+mod outer;
 mod record;
 mod spelling;
 mod update;

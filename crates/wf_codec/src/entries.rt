@@ -79,13 +79,12 @@ impl Read for Write {
         let least = least_after(before.map(|write| write.var.0));
         let (var, rest) = u16_in(bytes, least, u64::from(limit))?;
         let (trans, rest) = u16_in(rest, 0, MAX_TRANSITIONS as u64)?;
-        let (val, rest) = match value_of(rest) {
-            Ok(read) => read,
-            Err(fault) => return Err(fault),
-        };
         let var = VarId(var);
         let trans = TransId(trans);
-        Ok((Write { var, trans, val }, rest))
+        match value_of(rest) {
+            Ok((val, rest)) => Ok((Write { var, trans, val }, rest)),
+            Err(fault) => Err(fault),
+        }
     }
 }
 

@@ -23,12 +23,11 @@ impl Read for Output {
         bytes: &'a [u8],
     ) -> Result<(Output, &'a [u8]), FieldFault> {
         let (var, rest) = u16_in(bytes, 0, u64::from(limit))?;
-        let (val, rest) = match value_of(rest) {
-            Ok(read) => read,
-            Err(fault) => return Err(fault),
-        };
         let var = VarId(var);
-        Ok((Output { var, val }, rest))
+        match value_of(rest) {
+            Ok((val, rest)) => Ok((Output { var, val }, rest)),
+            Err(fault) => Err(fault),
+        }
     }
 }
 
@@ -49,10 +48,7 @@ fn completion_of(alloc: Global, limit: u32, bytes: &[u8]) -> Result<(Outer, &[u8
     let (item, rest) = u32_in(bytes, 1, 1 << 32)?;
     let (act, rest) = u16_in(rest, 0, u64::from(limit))?;
     let (count, rest) = u8_in(rest, 0, MAX_OUTPUTS as u64 + 1)?;
-    let (outputs, rest) = match items_of(alloc, limit, u32::from(count), rest) {
-        Ok(read) => read,
-        Err(fault) => return Err(fault),
-    };
+    let (outputs, rest) = items_of(alloc, limit, u32::from(count), rest)?;
     let act = ActId(act);
     Ok((Outer::Complete { item, act, outputs }, rest))
 }

@@ -64,11 +64,10 @@ fn text_of(bytes: &[u8]) -> Result<(Val, &[u8]), FieldFault>
     ensures { Gives (λ x. (x.0, x.1.now)) result (value_of_sort 2 bytes.now) }
 {
     let (len, rest) = u8_in(bytes, 0, MAX_TEXT as u64 + 1)?;
-    let (text, rest) = match chars_of(len, rest) {
-        Ok(read) => read,
-        Err(fault) => return Err(fault),
-    };
-    Ok((Val::Text(text), rest))
+    match chars_of(len, rest) {
+        Ok((text, rest)) => Ok((Val::Text(text), rest)),
+        Err(fault) => Err(fault),
+    }
 }
 
 /// A value behind its sort.

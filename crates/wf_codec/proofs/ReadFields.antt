@@ -6,6 +6,7 @@ use Rattle.wf_codec.specs.declared.fault.Misfit.{Misfit}
 use Rattle.wf_codec.specs.declared.fault.Misfit.TheVariants.{Bad}
 use Rattle.wf_codec.specs.Reading.{byte_in, number_in}
 use Rattle.wf_codec.specs.Fields.{char_at, value_of_sort}
+use Rattle.wf_codec.specs.Records.{head_char_at}
 
 within : (b c : Bool) (l : ℕ) (x y : ℕ × List ℕ) → cond (b && c) (Ok x) (Err (Bad l)) ≡ Ok y → (c ≡ true) × (x ≡ y)
 within true true l x y e = (refl, cc)
@@ -33,6 +34,12 @@ pub char_behind : (before other : Option ℕ) (bytes : List ℕ) → char_at bef
 unfolding char_at
 char_behind before other [] = refl
 char_behind before other (c ∷ bytes) = refl
+
+-- so is a character of a head
+pub head_char_behind : (before other : Option ℕ) (bytes : List ℕ) → head_char_at before bytes ≡ head_char_at other bytes
+unfolding head_char_at
+head_char_behind before other [] = refl
+head_char_behind before other (c ∷ bytes) = refl
 
 text_char : (b : Bool) (l : ℕ) (x y : ℕ × List ℕ) → cond b (Ok x) (Err (Bad l)) ≡ Ok y → (b ≡ true) × (x ≡ y)
 text_char true l x y e = (refl, cc)

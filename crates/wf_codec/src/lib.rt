@@ -5,6 +5,7 @@
 mod entries;
 mod fault;
 mod field;
+mod head;
 mod item;
 mod outer;
 mod record;

@@ -2,17 +2,17 @@
 ghost use Rattle.std.specs.Prelude.{◌≡◌, ◌++◌, ℕ, List, IfOk, Ok, length};
 ghost use Rattle.wf_codec.specs.Spelling.{spelling_of};
 ghost use Rattle.wf_codec.specs.Ranges.{IsInRange, IsUpdate};
-ghost use Rattle.wf_codec.specs.Fields.{decoded};
-ghost use Rattle.wf_codec.specs.Answers.{Answers};
+ghost use Rattle.wf_codec.specs.Fields.{update_at, decoded};
+ghost use Rattle.wf_codec.specs.Answers.{Answers, told_fault};
 ghost use Rattle.wf_model.specs.declared.update.Update.{Update as UpdateValue};
 
-use crate::fault::{CodecFault, FieldFault};
+use crate::fault::{CodecFault, FieldFault, Misfit};
 use crate::field::{least_after, u8_in, u32_in};
 use crate::item::{Read, list_of};
 use std::alloc::Global;
 use wf_model::limits::{
     MAX_ACTS, MAX_EVENTS, MAX_FIRED, MAX_SEALED, MAX_STARTS, MAX_STATES, MAX_STEPS,
-    MAX_TRANSITIONS, MAX_VARS,
+    MAX_TRANSITIONS, MAX_UNITS, MAX_VARS,
 };
 use wf_model::{Bytes, NoMemory, UnitId, Update};
 
@@ -76,5 +76,33 @@ pub fn decode(alloc: Global, bytes: &[u8]) -> Result<(Update, usize), CodecFault
     // Which answer it is.
     ensures exact { Answers result (decoded bytes.now) }
 {
-    Err(CodecFault::NoMemory)
+    first_update(alloc, bytes)
+}
+
+/// The update that begins the bytes, and its length. Linear in the length.
+#[tactic(auto, unfolding(crate::specs::Fields::decoded))]
+fn first_update(alloc: Global, bytes: &[u8]) -> Result<(Update, usize), CodecFault>
+    ensures { Answers result (decoded bytes.now) }
+{
+    match bytes {
+        [] => Err(CodecFault::Short),
+        [TAG, ..] => match Update::read(alloc, MAX_UNITS as u32, None, bytes) {
+            Ok((update, rest)) => Ok((update, bytes.len().saturating_sub(rest.len()))),
+            Err(fault) => Err(fault_within(bytes.len(), fault)),
+        },
+        [_, ..] => Err(CodecFault::BadTag),
+    }
+}
+
+/// The fault of a field in bytes of this length, with its place from the front.
+fn fault_within(len: usize, fault: FieldFault) -> CodecFault
+    ensures { result ≡ told_fault len fault }
+{
+    match fault {
+        FieldFault::NoMemory => CodecFault::NoMemory,
+        FieldFault::Misfit(Misfit::Short) => CodecFault::Short,
+        FieldFault::Misfit(Misfit::Bad { left }) => CodecFault::BadField {
+            at: len.saturating_sub(left),
+        },
+    }
 }

@@ -1,2 +1,3 @@
 pub mod ReadLoop
 pub mod ReadFields
+pub mod ReadBounds

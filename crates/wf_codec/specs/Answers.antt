@@ -1,7 +1,6 @@
 -- What a call answers, unless memory runs out.
-use Rattle.std.specs.Prelude.{◌≡◌, ℕ, ◌-◌, Result, Ok, Err, Option, Some, None}
+use Rattle.std.specs.Prelude.{◌≡◌, ℕ, Result, Ok, Err, Option, Some, None}
 use Rattle.wf_model.specs.declared.update.Update.{Update}
-use Rattle.wf_codec.specs.declared.fault.Misfit.TheVariants.{Short, Bad}
 use Rattle.wf_codec.specs.declared.fault.FieldFault.{FieldFault}
 use Rattle.wf_codec.specs.declared.fault.FieldFault.TheVariants as field
 use Rattle.wf_codec.specs.declared.fault.CodecFault.{CodecFault}
@@ -21,12 +20,6 @@ abbrev pub AnswersRecord : Result JournalRecord RecordFault → Option JournalRe
 AnswersRecord (Ok r) wanted = wanted ≡ Some r
 AnswersRecord (Err records.NoMemory) wanted = Unit {0}
 AnswersRecord (Err records.NotRecord) wanted = wanted ≡ None
-
--- the fault of a field in bytes of this length, with its place from the front
-abbrev pub told_fault : ℕ → FieldFault → CodecFault
-told_fault len field.NoMemory = codec.NoMemory
-told_fault len (field.Misfit Short) = codec.Short
-told_fault len (field.Misfit (Bad left)) = codec.BadField (len - left)
 
 -- the fault of a field in a body
 abbrev pub record_fault : FieldFault → RecordFault

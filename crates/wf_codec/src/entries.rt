@@ -81,6 +81,7 @@ impl Read for Write {
         let (trans, rest) = u16_in(rest, 0, MAX_TRANSITIONS as u64)?;
         let var = VarId(var);
         let trans = TransId(trans);
+        // Not by `?`, which has no proof yet at a text beside a slice.
         match value_of(rest) {
             Ok((val, rest)) => Ok((Write { var, trans, val }, rest)),
             Err(fault) => Err(fault),

@@ -44,7 +44,7 @@ pub fn items_of<'a, T: Read>(
     Ok((items, rest))
 }
 
-/// A list behind its count, which is below `bound`.
+/// A list behind its count, which is below `bound`. Linear in the bytes that are read.
 #[tactic(auto, unfolding(crate::specs::Fields::list_at))]
 pub fn list_of<'a, T: Read>(
     alloc: Global,

@@ -16,3 +16,6 @@ mod value;
 pub use fault::{CodecFault, RecordFault};
 pub use record::{JournalRecord, decode_record, encode_record};
 pub use update::{decode, encode};
+
+#[cfg(test)]
+mod reading_tests;

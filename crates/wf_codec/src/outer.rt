@@ -24,6 +24,7 @@ impl Read for Output {
     ) -> Result<(Output, &'a [u8]), FieldFault> {
         let (var, rest) = u16_in(bytes, 0, u64::from(limit))?;
         let var = VarId(var);
+        // Not by `?`, which has no proof yet at a text beside a slice.
         match value_of(rest) {
             Ok((val, rest)) => Ok((Output { var, val }, rest)),
             Err(fault) => Err(fault),

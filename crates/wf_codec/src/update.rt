@@ -2,8 +2,8 @@
 ghost use Rattle.std.specs.Prelude.{◌≡◌, ◌++◌, ℕ, List, IfOk, Ok, length};
 ghost use Rattle.wf_codec.specs.Spelling.{spelling_of};
 ghost use Rattle.wf_codec.specs.Ranges.{IsInRange, IsUpdate};
-ghost use Rattle.wf_codec.specs.Fields.{update_at, decoded};
-ghost use Rattle.wf_codec.specs.Answers.{Answers, told_fault};
+ghost use Rattle.wf_codec.specs.Fields.{decoded};
+ghost use Rattle.wf_codec.specs.Answers.{Answers};
 ghost use Rattle.wf_model.specs.declared.update.Update.{Update as UpdateValue};
 
 use crate::fault::{CodecFault, FieldFault, Misfit};
@@ -87,22 +87,13 @@ fn first_update(alloc: Global, bytes: &[u8]) -> Result<(Update, usize), CodecFau
     match bytes {
         [] => Err(CodecFault::Short),
         [TAG, ..] => match Update::read(alloc, MAX_UNITS as u32, None, bytes) {
-            Ok((update, rest)) => Ok((update, bytes.len().saturating_sub(rest.len()))),
-            Err(fault) => Err(fault_within(bytes.len(), fault)),
+            Ok((update, rest)) => Ok((update, bytes.len() - rest.len())),
+            Err(FieldFault::NoMemory) => Err(CodecFault::NoMemory),
+            Err(FieldFault::Misfit(Misfit::Short)) => Err(CodecFault::Short),
+            Err(FieldFault::Misfit(Misfit::Bad { left })) => Err(CodecFault::BadField {
+                at: bytes.len() - left,
+            }),
         },
         [_, ..] => Err(CodecFault::BadTag),
-    }
-}
-
-/// The fault of a field in bytes of this length, with its place from the front.
-fn fault_within(len: usize, fault: FieldFault) -> CodecFault
-    ensures { result ≡ told_fault len fault }
-{
-    match fault {
-        FieldFault::NoMemory => CodecFault::NoMemory,
-        FieldFault::Misfit(Misfit::Short) => CodecFault::Short,
-        FieldFault::Misfit(Misfit::Bad { left }) => CodecFault::BadField {
-            at: len.saturating_sub(left),
-        },
     }
 }

@@ -1,4 +1,4 @@
-//! Values.
+//! Values: truths, integers and texts.
 ghost use Rattle.std.specs.Prelude.{◌≤◌, None};
 ghost use Rattle.wf_codec.specs.Reading.{Gives, items_at};
 ghost use Rattle.wf_codec.specs.Fields.{char_at, value_of_sort, value_at};
@@ -64,13 +64,14 @@ fn text_of(bytes: &[u8]) -> Result<(Val, &[u8]), FieldFault>
     ensures { Gives (λ x. (x.0, x.1.now)) result (value_of_sort 2 bytes.now) }
 {
     let (len, rest) = u8_in(bytes, 0, MAX_TEXT as u64 + 1)?;
+    // Not by `?`, which has no proof yet at a text beside a slice.
     match chars_of(len, rest) {
         Ok((text, rest)) => Ok((Val::Text(text), rest)),
         Err(fault) => Err(fault),
     }
 }
 
-/// A value behind its sort.
+/// A value behind its sort, which is a byte: a truth, an integer or a text.
 #[tactic(auto, using(crate::proofs::ReadFields::sort_of_text), unfolding(crate::specs::Fields::value_at))]
 pub fn value_of(bytes: &[u8]) -> Result<(Val, &[u8]), FieldFault>
     ensures { Gives (λ x. (x.0, x.1.now)) result (value_at bytes.now) }

@@ -1,3 +1,12 @@
 pub mod ReadLoop
 pub mod ReadFields
 pub mod ReadBounds
+pub mod Readers
+pub mod Numbers
+pub mod Lists
+pub mod Values
+pub mod Items
+pub mod Outers
+pub mod Updates
+pub mod Decoded
+pub mod Records

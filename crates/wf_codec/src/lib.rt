@@ -7,6 +7,7 @@ mod fault;
 mod field;
 mod head;
 mod item;
+mod laws;
 mod outer;
 mod record;
 mod spelling;
@@ -14,6 +15,7 @@ mod update;
 mod value;
 
 pub use fault::{CodecFault, RecordFault};
+pub use laws::{one_record, one_spelling, record_is_decoded, spelled_is_decoded};
 pub use record::{JournalRecord, decode_record, encode_record};
 pub use update::{decode, encode};
 

@@ -1,10 +1,9 @@
 -- What is known of fields that were read.
-use Rattle.std.proofs.Common.{◌≡◌, ℕ, zero, suc, ◌<◌, ◌≤◌, Bool, true, false, cond, ltb, leb, ◌&&◌, List, [], ◌∷◌, length, Option, Result, Ok, Err, refl, ap, arith, IsTrue}
+use Rattle.std.proofs.Common.{◌≡◌, ℕ, zero, suc, ◌<◌, ◌≤◌, Bool, true, false, cond, ltb, leb, ◌&&◌, List, [], ◌∷◌, length, Option, Ok, Err, refl, ap, arith, IsTrue}
 use Rattle.std.proofs.lemmas.Bool.{ltb-true}
 use Rattle.wf_model.specs.Txt.{is_text_char}
-use Rattle.wf_codec.specs.declared.fault.Misfit.{Misfit}
 use Rattle.wf_codec.specs.declared.fault.Misfit.TheVariants.{Bad}
-use Rattle.wf_codec.specs.Reading.{byte_in, number_in}
+use Rattle.wf_codec.specs.Reading.{byte_in}
 use Rattle.wf_codec.specs.Fields.{char_at, value_of_sort}
 use Rattle.wf_codec.specs.Records.{head_char_at}
 

@@ -1,5 +1,5 @@
 //! Fields of numbers. Each is `Short` where the bytes end before it does, and `Bad` where it isn't in its range.
-ghost use Rattle.std.specs.Prelude.{◌≡◌, ◌≤◌, ◌^◌, ◌<◌, length};
+ghost use Rattle.std.specs.Prelude.{◌≡◌, ◌^◌, length};
 ghost use Rattle.std.specs.Int.{w16, w32, w64};
 ghost use Rattle.wf_codec.specs.Reading.{Gives, byte_in, number_in};
 ghost use Rattle.wf_codec.specs.Reading as spec;

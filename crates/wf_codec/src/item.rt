@@ -1,6 +1,5 @@
-//! Lists: items that are read and spelled one after another.
-ghost use Rattle.std.specs.Prelude.{◌≡◌, ◌++◌, ℕ, List as Listed, Option, None, Result, OnOk, option_copied};
-ghost use Rattle.std.specs.List.{flat_map, AllByRecursion};
+//! Lists: items that are read one after another.
+ghost use Rattle.std.specs.Prelude.{ℕ, List as Listed, Option, None, Result, option_copied};
 ghost use Rattle.wf_codec.specs.declared.fault.Misfit.{Misfit as MisfitValue};
 ghost use Rattle.wf_codec.specs.Reading.{Gives, items_at};
 ghost use Rattle.wf_codec.specs.Fields.{list_at};
@@ -8,14 +7,14 @@ ghost use Rattle.wf_codec.specs.Fields.{list_at};
 use crate::fault::FieldFault;
 use crate::field::u16_in;
 use std::alloc::Global;
-use wf_model::{List, NoMemory};
+use wf_model::List;
 
 /// What lists are made of.
 pub trait Read: Drop {
     /// What reading gives, behind an item or none, where the item's number is to be below a limit.
     ghost reading: { ℕ → Option Self → Listed ℕ → Result (Self × Listed ℕ) MisfitValue };
 
-    /// The item at the front of the bytes, and the bytes behind it.
+    /// The item at the front of the bytes, and the bytes behind it. `before` is the item before it in its list, if there is one.
     fn read<'a>(
         alloc: Global,
         limit: u32,
@@ -34,7 +33,7 @@ pub fn items_of<'a, T: Read>(
 ) -> Result<(List<T>, &'a [u8]), FieldFault>
     ensures { Gives (λ x. (x.0, x.1.now)) result (items_at (T.reading limit) count None bytes.now) }
 {
-    let mut items: List<T> = List::new(alloc);
+    let mut items = List::new(alloc);
     let mut rest = bytes;
     for _ in 0..count {
         let (item, after) = T::read(alloc, limit, items.as_slice().last(), rest)?;

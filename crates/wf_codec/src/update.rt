@@ -19,41 +19,8 @@ use wf_model::{Bytes, NoMemory, UnitId, Update};
 /// The first byte of an update.
 const TAG: u8 = 0x55;
 
-impl Read for Update {
-    ghost use Rattle.wf_codec.specs.Fields.{update_at};
-
-    ghost reading = { update_at };
-
-    #[tactic(auto, unfolding(crate::specs::Fields::update_at))]
-    fn read<'a>(
-        alloc: Global,
-        limit: u32,
-        before: Option<&Update>,
-        bytes: &'a [u8],
-    ) -> Result<(Update, &'a [u8]), FieldFault> {
-        let (_, rest) = u8_in(bytes, u64::from(TAG), u64::from(TAG) + 1)?;
-        let least = least_after(before.map(|update| update.from.0));
-        let (from, rest) = u8_in(rest, least, u64::from(limit))?;
-        let (step, rest) = u32_in(rest, 1, u64::from(MAX_STEPS) + 2)?;
-        let (flips, rest) = list_of(alloc, MAX_STATES as u32, MAX_STATES as u32 + 1, rest)?;
-        let (writes, rest) = list_of(alloc, MAX_VARS as u32, 1 << 16, rest)?;
-        let (raised, rest) = list_of(alloc, MAX_EVENTS as u32, 1 << 16, rest)?;
-        let (starts, rest) = list_of(alloc, MAX_ACTS as u32, MAX_STARTS as u32 + 1, rest)?;
-        let (fired, rest) = list_of(alloc, MAX_TRANSITIONS as u32, MAX_FIRED as u32 + 1, rest)?;
-        let (outer, rest) = list_of(alloc, MAX_EVENTS as u32, MAX_SEALED as u32 + 1, rest)?;
-        let update = Update {
-            from: UnitId(u32::from(from)),
-            step,
-            flips,
-            writes,
-            raised,
-            starts,
-            fired,
-            outer,
-        };
-        Ok((update, rest))
-    }
-}
+/// Above each count of two bytes, for the lists that have no bound of their own.
+const ANY_COUNT: u32 = 1 << 16;
 
 /// The one spelling of an update whose fields are in their ranges. Linear in its bytes.
 pub fn encode(alloc: Global, update: &Update) -> Result<Bytes, NoMemory>
@@ -95,5 +62,41 @@ fn first_update(alloc: Global, bytes: &[u8]) -> Result<(Update, usize), CodecFau
             }),
         },
         [_, ..] => Err(CodecFault::BadTag),
+    }
+}
+
+impl Read for Update {
+    ghost use Rattle.wf_codec.specs.Fields.{update_at};
+
+    ghost reading = { update_at };
+
+    #[tactic(auto, unfolding(crate::specs::Fields::update_at))]
+    fn read<'a>(
+        alloc: Global,
+        limit: u32,
+        before: Option<&Update>,
+        bytes: &'a [u8],
+    ) -> Result<(Update, &'a [u8]), FieldFault> {
+        let (_, rest) = u8_in(bytes, u64::from(TAG), u64::from(TAG) + 1)?;
+        let least = least_after(before.map(|update| update.from.0));
+        let (from, rest) = u8_in(rest, least, u64::from(limit))?;
+        let (step, rest) = u32_in(rest, 1, u64::from(MAX_STEPS) + 2)?;
+        let (flips, rest) = list_of(alloc, MAX_STATES as u32, MAX_STATES as u32 + 1, rest)?;
+        let (writes, rest) = list_of(alloc, MAX_VARS as u32, ANY_COUNT, rest)?;
+        let (raised, rest) = list_of(alloc, MAX_EVENTS as u32, ANY_COUNT, rest)?;
+        let (starts, rest) = list_of(alloc, MAX_ACTS as u32, MAX_STARTS as u32 + 1, rest)?;
+        let (fired, rest) = list_of(alloc, MAX_TRANSITIONS as u32, MAX_FIRED as u32 + 1, rest)?;
+        let (outer, rest) = list_of(alloc, MAX_EVENTS as u32, MAX_SEALED as u32 + 1, rest)?;
+        let update = Update {
+            from: UnitId(u32::from(from)),
+            step,
+            flips,
+            writes,
+            raised,
+            starts,
+            fired,
+            outer,
+        };
+        Ok((update, rest))
     }
 }

@@ -1,3 +1,6 @@
+pub mod ReadLoop
+pub mod ReadFields
+pub mod ReadBounds
 pub mod Readers
 pub mod Numbers
 pub mod Lists

@@ -1,6 +1,8 @@
 -- What a call answers, unless memory runs out.
 use Rattle.std.specs.Prelude.{◌≡◌, ℕ, Result, Ok, Err, Option, Some, None}
 use Rattle.wf_model.specs.declared.update.Update.{Update}
+use Rattle.wf_codec.specs.declared.fault.FieldFault.{FieldFault}
+use Rattle.wf_codec.specs.declared.fault.FieldFault.TheVariants as field
 use Rattle.wf_codec.specs.declared.fault.CodecFault.{CodecFault}
 use Rattle.wf_codec.specs.declared.fault.CodecFault.TheVariants as codec
 use Rattle.wf_codec.specs.declared.fault.RecordFault.{RecordFault}
@@ -18,3 +20,8 @@ abbrev pub AnswersRecord : Result JournalRecord RecordFault → Option JournalRe
 AnswersRecord (Ok r) wanted = wanted ≡ Some r
 AnswersRecord (Err records.NoMemory) wanted = Unit {0}
 AnswersRecord (Err records.NotRecord) wanted = wanted ≡ None
+
+-- the fault of a field in a body
+abbrev pub record_fault : FieldFault → RecordFault
+record_fault field.NoMemory = records.NoMemory
+record_fault (field.Misfit misfit) = records.NotRecord

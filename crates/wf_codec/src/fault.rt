@@ -57,3 +57,16 @@ impl From<NoMemory> for FieldFault {
         FieldFault::NoMemory
     }
 }
+
+impl From<FieldFault> for RecordFault {
+    ghost use Rattle.wf_codec.specs.Answers.{record_fault};
+
+    ghost from_gives = { λ fault made. made ≡ record_fault fault };
+
+    fn from(fault: FieldFault) -> RecordFault {
+        match fault {
+            FieldFault::NoMemory => RecordFault::NoMemory,
+            FieldFault::Misfit(_) => RecordFault::NotRecord,
+        }
+    }
+}

@@ -2,12 +2,15 @@
 //! or the first field that is wrong, or that they are too few.
 #![tactic(auto)]
 
+mod entries;
 mod fault;
 mod field;
 mod finality;
+mod head;
 mod item;
 mod laws;
 mod number;
+mod outer;
 mod record;
 mod room;
 mod spelled;
@@ -22,5 +25,6 @@ pub use laws::{one_record, one_spelling, record_is_decoded, spelled_is_decoded};
 pub use record::{JournalRecord, decode_record, encode_record};
 pub use update::{decode, encode};
 
+mod reading_tests;
 #[cfg(test)]
 mod spelling_tests;

@@ -8,6 +8,7 @@ ghost use Rattle.wf_codec.specs.Ranges.{IsWrite, IsStart, IsOuter, IsInRange};
 
 use crate::number::{spell_four, spell_two};
 use crate::spelling::{Spell, spell_items, spell_list};
+use crate::update::TAG;
 use wf_model::{
     ActId, EventId, NoMemory, Outer, Output, StartAt, StateId, TransId, Update, Val, Write,
 };
@@ -172,7 +173,7 @@ impl Spell for Update {
     ghost fits = { IsInRange };
 
     fn spell(&self, bytes: &mut Vec<u8>) -> Result<(), NoMemory> {
-        bytes.extend_from_slice(&[b'U', self.from.0 as u8])?;
+        bytes.extend_from_slice(&[TAG, self.from.0 as u8])?;
         spell_four(self.step, bytes)?;
         spell_changes(self, bytes)?;
         spell_doings(self, bytes)

@@ -7,7 +7,7 @@ ghost use Rattle.wf_codec.specs.Ranges.{IsOuter, IsInRange};
 ghost use Rattle.wf_codec.specs.Records.{named, record_text, IsRecordInRange};
 
 use crate::number::{spell_eight, spell_four, spell_two};
-use crate::record::JournalRecord;
+use crate::record::{ADMIT, HEAD, JournalRecord, TURN};
 use crate::spelling::{Spell, spell_items};
 use wf_model::{Name, NoMemory, Outer, Update};
 
@@ -28,7 +28,7 @@ fn spell_head(version: u8, chart: &Name, unit: &Name, bytes: &mut Vec<u8>) -> Re
     requires unit { length unit.now ≤ MAX_NAME }
     ensures { OnOk result (bytes.new.items ≡ bytes.old.items ++ 72 ∷ version ∷ named chart.now ++ named unit.now) }
 {
-    bytes.extend_from_slice(&[b'H', version])?;
+    bytes.extend_from_slice(&[HEAD, version])?;
     spell_name(chart, bytes)?;
     spell_name(unit, bytes)
 }
@@ -38,7 +38,7 @@ fn spell_admission(request: u64, outer: &Outer, bytes: &mut Vec<u8>) -> Result<(
     requires { IsOuter (2 ^ 16) outer.now }
     ensures { OnOk result (bytes.new.items ≡ bytes.old.items ++ 65 ∷ eight request ++ outer_text outer.now) }
 {
-    bytes.push(b'A')?;
+    bytes.push(ADMIT)?;
     spell_eight(request, bytes)?;
     outer.spell(bytes)
 }
@@ -55,7 +55,7 @@ fn spell_turn(
     requires sealed { sealed < 2 ^ 16 }
     ensures { OnOk result (bytes.new.items ≡ bytes.old.items ++ 84 ∷ four step ++ (length inputs.now ∷ flat_map spelling_of inputs.now ++ two sealed)) }
 {
-    bytes.push(b'T')?;
+    bytes.push(TURN)?;
     spell_four(step, bytes)?;
     bytes.push(inputs.len() as u8)?;
     spell_items(inputs, bytes)?;

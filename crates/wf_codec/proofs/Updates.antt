@@ -1,6 +1,5 @@
 -- Updates: what is read is spelled so and in its ranges, and what is spelled is read again, whatever follows.
-use Rattle.std.proofs.Common.{◌≡◌, ℕ, ◌+◌, ◌^◌, ◌<◌, ◌≤◌, List, [], ◌∷◌, ◌++◌, length, Option, None, Ok, refl, ap, arith}
-use Rattle.std.specs.List.{AllByRecursion}
+use Rattle.std.proofs.Common.{◌≡◌, ℕ, ◌+◌, ◌^◌, ◌<◌, List, ◌++◌, length, Option, None, Ok, refl, ap, arith}
 use Rattle.std.specs.Int.{w32}
 use Rattle.wf_model.specs.declared.limits.TheConstants.{MAX_UNITS, MAX_EVENTS, MAX_VARS, MAX_STATES, MAX_STEPS, MAX_FIRED, MAX_STARTS, MAX_SEALED}
 use Rattle.wf_model.specs.declared.ids.StateId.{StateId}
@@ -8,24 +7,15 @@ use Rattle.wf_model.specs.declared.ids.EventId.{EventId}
 use Rattle.wf_model.specs.declared.update.Write.{Write}
 use Rattle.wf_model.specs.declared.update.Update.{Update}
 use Rattle.wf_codec.specs.Spelling.{spelling_of}
-use Rattle.wf_codec.specs.Ranges.{Ascend, IsWrite, IsOuter, IsInRange, IsHeldValue, IsHeldOuter, IsHeld, IsUpdate}
+use Rattle.wf_codec.specs.Ranges.{IsWrite, IsOuter, IsInRange, IsHeldValue, IsHeldOuter, IsHeld, IsUpdate}
 use Rattle.wf_codec.specs.Reading.{least_after}
 use Rattle.wf_codec.specs.Fields.{update_at}
+use Rattle.wf_codec.proofs.Fits.{ascending_few}
 use Rattle.wf_codec.proofs.Readers.{IsBytes, Takes, Reads, Reads-then, Reads-as, Reads-of}
 use Rattle.wf_codec.proofs.Numbers.{IsWithin, Reads-byte, Reads-number, wide32}
 use Rattle.wf_codec.proofs.Lists.{EachFits, Reads-list, in_order, each_fits, each_alone, all_fit, all_both, all_as}
 use Rattle.wf_codec.proofs.Items.{IsNextState, IsNextEvent, IsNextTrans, IsHeldWrite, IsNextWrite, IsNextStart, states_split, events_split, transitions_split, writes_split, starts_split, Reads-state, Reads-write, Reads-event, Reads-start, Reads-trans}
 use Rattle.wf_codec.proofs.Outers.{IsWhole, Reads-outer}
-
--- ---- a list whose numbers ascend below a limit is no longer than the limit
-
-room_behind : {A : Type 0} (number : A → ℕ) (limit : ℕ) (x : A) (ys : List A) → AllByRecursion (λ y. number y < limit) (x ∷ ys) → Ascend number (x ∷ ys) → number x + length (x ∷ ys) ≤ limit
-room_behind number limit x [] below order = omega (arith, below.0)
-room_behind number limit x (y ∷ ys) below order = omega (arith, order.0, room_behind number limit y ys below.1 order.1)
-
-pub few : {A : Type 0} (number : A → ℕ) (limit : ℕ) (xs : List A) → AllByRecursion (λ x. number x < limit) xs → Ascend number xs → length xs ≤ limit
-few number limit [] below order = omega arith
-few number limit (x ∷ xs) below order = omega (arith, room_behind number limit x xs below order)
 
 -- ---- the fields of an update
 
@@ -81,9 +71,9 @@ next_is_read : (before : Option Update) (u : Update) → IsNextUpdate before u �
 next_is_read before u (from, (ranges, held)) =
     let both = all_both IsWrite (λ w. IsHeldValue w.val) u.writes ranges.writes held.0 in
     let write = all_as (λ w. IsWrite w × IsHeldValue w.val) (λ w. (w.var.0 < MAX_VARS) × IsHeldWrite w) (λ w p. (p.0.0, (p.0.1, p.1))) u.writes both in
-    let few_flips = few (λ (s : StateId). s.0) MAX_STATES u.flips ranges.flips ranges.flips_ascend in
-    let few_writes = few (λ (w : Write). w.var.0) MAX_VARS u.writes (all_as IsWrite (λ w. w.var.0 < MAX_VARS) (λ w p. p.0) u.writes ranges.writes) ranges.writes_ascend in
-    let few_raised = few (λ (e : EventId). e.0) MAX_EVENTS u.raised ranges.raised ranges.raised_ascend in
+    let few_flips = ascending_few (λ (s : StateId). s.0) MAX_STATES u.flips ranges.flips ranges.flips_ascend in
+    let few_writes = ascending_few (λ (w : Write). w.var.0) MAX_VARS u.writes (all_as IsWrite (λ w. w.var.0 < MAX_VARS) (λ w p. p.0) u.writes ranges.writes) ranges.writes_ascend in
+    let few_raised = ascending_few (λ (e : EventId). e.0) MAX_EVENTS u.raised ranges.raised ranges.raised_ascend in
     let step : IsWithin 1 (MAX_STEPS + 2) u.step = (ranges.step.0, omega (arith, ranges.step.1)) in
     let flips : IsList IsNextState (MAX_STATES + 1) u.flips = (omega (arith, few_flips), each_fits states_split u.flips ranges.flips ranges.flips_ascend) in
     let writes : IsList IsNextWrite (2 ^ 16) u.writes = (omega (arith, few_writes), each_fits writes_split u.writes write ranges.writes_ascend) in

@@ -25,6 +25,5 @@ pub use laws::{one_record, one_spelling, record_is_decoded, spelled_is_decoded};
 pub use record::{JournalRecord, decode_record, encode_record};
 pub use update::{decode, encode};
 
-mod reading_tests;
 #[cfg(test)]
-mod spelling_tests;
+mod tests;

@@ -1,0 +1,77 @@
+-- What can be spelled: each field is in its range, each list in its order, and each value is one that its type keeps.
+use Rattle.std.specs.Prelude.{ℕ, ◌≡◌, ◌⊎◌, ◌+◌, ◌<◌, ◌≤◌, ◌^◌, List, [], ◌∷◌, length, IsTrue}
+use Rattle.std.specs.List.{AllByRecursion}
+use Rattle.std.specs.Int.{w64}
+use Rattle.std.specs.Int.RustNames.{FitsSigned}
+use Rattle.wf_model.specs.declared.limits.TheConstants.{MAX_UNITS, MAX_EVENTS, MAX_VARS, MAX_ACTS, MAX_STATES, MAX_TRANSITIONS, MAX_ACTIONS, MAX_OUTPUTS, MAX_TEXT, MAX_STEPS, MAX_FIRED, MAX_STARTS, MAX_SEALED}
+use Rattle.wf_model.specs.Txt.{is_text}
+use Rattle.wf_model.specs.declared.value.Val.{Val}
+use Rattle.wf_model.specs.declared.value.Val.TheVariants as v
+use Rattle.wf_model.specs.declared.outer.Outer.{Outer}
+use Rattle.wf_model.specs.declared.outer.Outer.TheVariants.{Happen, Complete}
+use Rattle.wf_model.specs.declared.update.Write.{Write}
+use Rattle.wf_model.specs.declared.update.StartAt.{StartAt}
+use Rattle.wf_model.specs.declared.update.Update.{Update}
+
+-- each stands so to the next
+abbrev pub InOrder : {A : Type 0} → (A → A → Type 0) → List A → Type 0
+InOrder Before [] = Unit {0}
+InOrder Before (x ∷ []) = Unit {0}
+InOrder Before (x ∷ (y ∷ ys)) = Before x y × InOrder Before (y ∷ ys)
+
+-- the numbers strictly ascend
+abbrev pub Ascend : {A : Type 0} → (A → ℕ) → List A → Type 0
+Ascend number xs = InOrder (λ x y. number x < number y) xs
+
+-- a start of a later transition, or of the same one at a later place
+abbrev pub IsEarlier : StartAt → StartAt → Type 0
+IsEarlier a b = (a.trans.0 < b.trans.0) ⊎ ((a.trans.0 ≡ b.trans.0) × (a.place < b.place))
+
+abbrev pub IsWrite : Write → Type 0
+IsWrite w = (w.var.0 < MAX_VARS) × (w.trans.0 < MAX_TRANSITIONS)
+
+abbrev pub IsStart : StartAt → Type 0
+IsStart s = (s.act.0 < MAX_ACTS) × (s.trans.0 < MAX_TRANSITIONS) × (s.place < MAX_ACTIONS)
+
+-- an outer whose event, activity and variables have numbers below a limit; items count from 1
+abbrev pub IsOuter : ℕ → Outer → Type 0
+IsOuter limit (Happen e) = e.0 < limit
+IsOuter limit (Complete item act outputs) = (1 ≤ item) × (act.0 < limit) × (length outputs ≤ MAX_OUTPUTS) × AllByRecursion (λ o. o.var.0 < limit) outputs
+
+-- each field is in its range, and each list in its order
+pub record IsInRange (u : Update) : Type 0 where
+  pub from : u.from.0 < MAX_UNITS
+  pub step : (1 ≤ u.step) × (u.step ≤ MAX_STEPS + 1)
+  pub flips : AllByRecursion (λ s. s.0 < MAX_STATES) u.flips
+  pub flips_ascend : Ascend (λ s. s.0) u.flips
+  pub writes : AllByRecursion IsWrite u.writes
+  pub writes_ascend : Ascend (λ w. w.var.0) u.writes
+  pub raised : AllByRecursion (λ e. e.0 < MAX_EVENTS) u.raised
+  pub raised_ascend : Ascend (λ e. e.0) u.raised
+  pub starts : AllByRecursion IsStart u.starts
+  pub starts_ascend : InOrder IsEarlier u.starts
+  pub starts_few : length u.starts ≤ MAX_STARTS
+  pub fired : AllByRecursion (λ t. t.0 < MAX_TRANSITIONS) u.fired
+  pub fired_ascend : Ascend (λ t. t.0) u.fired
+  pub fired_few : length u.fired ≤ MAX_FIRED
+  pub outer : AllByRecursion (IsOuter MAX_EVENTS) u.outer
+  pub outer_few : length u.outer ≤ MAX_SEALED
+
+-- What the types keep of each value that a program holds.
+
+-- an integer of 64 bits, or at most 64 text characters
+abbrev pub IsHeldValue : Val → Type 0
+IsHeldValue (v.Bool b) = Unit {0}
+IsHeldValue (v.Int z) = FitsSigned w64 z
+IsHeldValue (v.Text cs) = (length cs ≤ MAX_TEXT) × IsTrue (is_text cs)
+
+abbrev pub IsHeldOuter : Outer → Type 0
+IsHeldOuter (Happen e) = Unit {0}
+IsHeldOuter (Complete item act outputs) = (item < 2 ^ 32) × AllByRecursion (λ o. IsHeldValue o.val) outputs
+
+abbrev pub IsHeld : Update → Type 0
+IsHeld u = AllByRecursion (λ w. IsHeldValue w.val) u.writes × AllByRecursion IsHeldOuter u.outer
+
+-- what has a spelling
+abbrev pub IsUpdate : Update → Type 0
+IsUpdate u = IsInRange u × IsHeld u

@@ -1,0 +1,52 @@
+-- Reading from left to right, with the first fault that is met. A field that is read is a value and the bytes behind it.
+use Rattle.std.specs.Prelude.{ℕ, zero, suc, ◌≡◌, List, [], ◌∷◌, length, take, drop, Option, Some, None, Result, Ok, Err, Bool, ◌&&◌, nat_le, nat_lt, if◌then◌else◌}
+use Rattle.std.specs.Int.{Width, byte_len, from_be_bytes}
+use Rattle.wf_codec.specs.declared.fault.Misfit.{Misfit}
+use Rattle.wf_codec.specs.declared.fault.Misfit.TheVariants.{Short, Bad}
+use Rattle.wf_codec.specs.declared.fault.FieldFault.{FieldFault}
+use Rattle.wf_codec.specs.declared.fault.FieldFault.TheVariants as fault
+
+infixl 10 ◌>>=◌
+abbrev pub ◌>>=◌ : {A B : Type 0} → Result A Misfit → (A → Result B Misfit) → Result B Misfit
+(Ok x) >>= f = f x
+(Err e) >>= f = Err e
+
+-- what a function answered, seen so, is what reading gives, unless memory ran out
+abbrev pub Fails : {Y : Type 0} → FieldFault → Result Y Misfit → Type 0
+Fails fault.NoMemory read = Unit {0}
+Fails (fault.Misfit misfit) read = read ≡ Err misfit
+
+abbrev pub Gives : {X Y : Type 0} → (X → Y) → Result X FieldFault → Result Y Misfit → Type 0
+Gives view (Ok x) read = read ≡ Ok (view x)
+Gives view (Err e) read = Fails e read
+
+-- a number is in its range from the least on and below the limit; else its field is bad, and its first byte has so many from it on
+abbrev pub is_within : ℕ → ℕ → ℕ → Bool
+is_within least limit n = nat_le least n && nat_lt n limit
+
+abbrev pub ranged : ℕ → ℕ → List ℕ → ℕ → List ℕ → Result (ℕ × List ℕ) Misfit
+ranged least limit bytes n rest = if is_within least limit n then Ok (n, rest) else Err (Bad (length bytes))
+
+-- one byte in a range
+unfoldable pub byte_in : ℕ → ℕ → List ℕ → Result (ℕ × List ℕ) Misfit
+byte_in least limit [] = Err Short
+byte_in least limit (b ∷ rest) = ranged least limit (b ∷ rest) b rest
+
+-- a number of some bytes in a range
+unfoldable pub number_in : Width → ℕ → ℕ → List ℕ → Result (ℕ × List ℕ) Misfit
+number_in w least limit bytes =
+    if nat_lt (length bytes) (byte_len w) then Err Short
+    else ranged least limit bytes (from_be_bytes w (take (byte_len w) bytes)) (drop (byte_len w) bytes)
+
+-- so many items, each of which may look at the one before it
+unfoldable pub items_at : {A : Type 0} → (Option A → List ℕ → Result (A × List ℕ) Misfit) → ℕ → Option A → List ℕ → Result (List A × List ℕ) Misfit
+items_at item zero before bytes = Ok ([], bytes)
+items_at item (suc n) before bytes = do
+  first ← item before bytes
+  others ← items_at item n (Some first.0) first.1
+  Ok (first.0 ∷ others.0, others.1)
+
+-- the least number that may follow, where numbers ascend
+abbrev pub least_after : {A : Type 0} → (A → ℕ) → Option A → ℕ
+least_after number None = 0
+least_after number (Some x) = suc (number x)

@@ -1,0 +1,69 @@
+-- The one spelling of an update. Numbers are big-endian.
+use Rattle.std.specs.Prelude.{ℕ, List, [], ◌∷◌, ◌++◌, length, Bool, true, false}
+use Rattle.std.specs.List.{flat_map}
+use Rattle.std.specs.Int.{w16, w32, w64, to_be_bytes, cast_unsigned}
+use Rattle.wf_model.specs.declared.ids.StateId.{StateId}
+use Rattle.wf_model.specs.declared.ids.EventId.{EventId}
+use Rattle.wf_model.specs.declared.ids.TransId.{TransId}
+use Rattle.wf_model.specs.declared.value.Val.{Val}
+use Rattle.wf_model.specs.declared.value.Val.TheVariants as v
+use Rattle.wf_model.specs.declared.outer.Output.{Output}
+use Rattle.wf_model.specs.declared.outer.Outer.{Outer}
+use Rattle.wf_model.specs.declared.outer.Outer.TheVariants.{Happen, Complete}
+use Rattle.wf_model.specs.declared.update.Write.{Write}
+use Rattle.wf_model.specs.declared.update.StartAt.{StartAt}
+use Rattle.wf_model.specs.declared.update.Update.{Update}
+
+-- a number of two, four and eight bytes
+abbrev pub two : ℕ → List ℕ
+two n = to_be_bytes w16 n
+
+abbrev pub four : ℕ → List ℕ
+four n = to_be_bytes w32 n
+
+abbrev pub eight : ℕ → List ℕ
+eight n = to_be_bytes w64 n
+
+-- a truth as a byte
+abbrev pub truth : Bool → ℕ
+truth false = 0
+truth true = 1
+
+-- its sort, and then the truth, eight bytes in two's complement, or a length and the characters
+unfoldable pub value_text : Val → List ℕ
+value_text (v.Bool b) = 0 ∷ truth b ∷ []
+value_text (v.Int z) = 1 ∷ eight (cast_unsigned w64 z)
+value_text (v.Text cs) = 2 ∷ length cs ∷ cs
+
+abbrev pub state_text : StateId → List ℕ
+state_text s = two s.0
+
+abbrev pub event_text : EventId → List ℕ
+event_text e = two e.0
+
+abbrev pub trans_text : TransId → List ℕ
+trans_text t = two t.0
+
+abbrev pub write_text : Write → List ℕ
+write_text w = two w.var.0 ++ (two w.trans.0 ++ value_text w.val)
+
+abbrev pub start_text : StartAt → List ℕ
+start_text s = two s.act.0 ++ (two s.trans.0 ++ s.place ∷ [])
+
+abbrev pub output_text : Output → List ℕ
+output_text o = two o.var.0 ++ value_text o.val
+
+-- 0 and an event; or 1, an item, its activity and the outputs behind their number
+unfoldable pub outer_text : Outer → List ℕ
+outer_text (Happen e) = 0 ∷ two e.0
+outer_text (Complete item act outputs) = 1 ∷ four item ++ (two act.0 ++ length outputs ∷ flat_map output_text outputs)
+
+-- how many there are, and then each
+abbrev pub listed : {A : Type 0} → (A → List ℕ) → List A → List ℕ
+listed text xs = two (length xs) ++ flat_map text xs
+
+-- the tag, who tells it of which step, and what changes
+unfoldable pub spelling_of : Update → List ℕ
+spelling_of u =
+    85 ∷ u.from.0 ∷ four u.step ++ (listed state_text u.flips ++ (listed write_text u.writes ++ (listed event_text u.raised
+    ++ (listed start_text u.starts ++ (listed trans_text u.fired ++ listed outer_text u.outer)))))

@@ -1,0 +1,31 @@
+//! Laws of the spellings of updates and of records. Each public function is a law and has nothing to do.
+ghost use Rattle.std.specs.Prelude.{◌≡◌, ◌++◌, ℕ, List, Ok, Some, length};
+ghost use Rattle.wf_codec.specs.Spelling.{spelling_of};
+ghost use Rattle.wf_codec.specs.Ranges.{IsUpdate};
+ghost use Rattle.wf_codec.specs.Fields.{decoded};
+ghost use Rattle.wf_codec.specs.Records.{record_text, record_at, record_of, IsRecord};
+ghost use Rattle.wf_codec.specs.declared.record.JournalRecord.{JournalRecord as RecordValue};
+ghost use Rattle.wf_model.specs.declared.update.Update.{Update as UpdateValue};
+
+/// Each update has a spelling of its own: where the same bytes begin with the spellings of two updates, the two are one, and so is what
+/// follows. So no spelling begins another's.
+pub fn one_spelling()
+    ensures { (a b : UpdateValue) (x y : List ℕ) → IsUpdate a → IsUpdate b → spelling_of a ++ x ≡ spelling_of b ++ y → (a ≡ b) × (x ≡ y) }
+{}
+
+/// What is spelled is decoded, whatever follows it, and the answer's length is that of the spelling.
+pub fn spelled_is_decoded()
+    ensures { (update : UpdateValue) (rest : List ℕ) → IsUpdate update → decoded (spelling_of update ++ rest) ≡ Ok (update, length (spelling_of update)) }
+{}
+
+/// Each record has a body of its own, which begins no other's: where the same bytes begin with the bodies of two records, the two are
+/// one, and so is what follows.
+pub fn one_record()
+    ensures { (a b : RecordValue) (x y : List ℕ) → IsRecord a → IsRecord b → record_text a ++ x ≡ record_text b ++ y → (a ≡ b) × (x ≡ y) }
+{}
+
+/// The body of a record is read as that record; and where bytes follow it, the record is read from their front and they are left.
+pub fn record_is_decoded()
+    ensures whole { (entry : RecordValue) → IsRecord entry → record_of (record_text entry) ≡ Some entry }
+    ensures front { (entry : RecordValue) (rest : List ℕ) → IsRecord entry → record_at (record_text entry ++ rest) ≡ Ok (entry, rest) }
+{}

@@ -1,0 +1,29 @@
+//! The bytes of updates and of journal records. Each value has one spelling; whatever bytes come, the answer is the value that begins them,
+//! or the first field that is wrong, or that they are too few.
+#![tactic(auto)]
+
+mod entries;
+mod fault;
+mod field;
+mod finality;
+mod head;
+mod item;
+mod laws;
+mod number;
+mod outer;
+mod record;
+mod room;
+mod spelled;
+mod spelled_record;
+mod spelling;
+mod update;
+mod value;
+
+pub use fault::{CodecFault, RecordFault};
+pub use finality::{answer_is_final, fault_is_first, front_is_short, short_goes_on};
+pub use laws::{one_record, one_spelling, record_is_decoded, spelled_is_decoded};
+pub use record::{JournalRecord, decode_record, encode_record};
+pub use update::{decode, encode};
+
+#[cfg(test)]
+mod tests;

@@ -1,0 +1,143 @@
+//! Records of a journal as bytes.
+ghost use Rattle.std.specs.Prelude.{◌≡◌, Some, IfOk, IsErrOf};
+ghost use Rattle.wf_codec.specs.Reading.{Gives};
+ghost use Rattle.wf_codec.specs.Records.{record_text, head_at, admit_at, turn_at, record_at, record_of, IsRecord, IsRecordInRange};
+ghost use Rattle.wf_codec.specs.Answers.{AnswersRecord};
+ghost use Rattle.wf_codec.specs.declared.record.JournalRecord.{JournalRecord as RecordValue};
+
+use crate::fault::{FieldFault, Misfit, RecordFault};
+use crate::field::{bad, u8_in, u16_in, u32_in, u64_of};
+use crate::head::head_name_of;
+use crate::item::{Read, items_of};
+use crate::room::record_room;
+use crate::spelling::spell_whole;
+use std::alloc::Global;
+use wf_model::limits::MAX_UNITS;
+use wf_model::{Bytes, List, Name, NoMemory, Outer, Update};
+
+/// The first byte of a head.
+pub const HEAD: u8 = b'H';
+
+/// The first byte of an admission.
+pub const ADMIT: u8 = b'A';
+
+/// The first byte of a turn.
+pub const TURN: u8 = b'T';
+
+/// One record of a journal.
+#[derive(Debug, Drop)]
+pub enum JournalRecord {
+    /// Whose journal it is.
+    Head {
+        version: u8,
+        chart: Name,
+        unit: Name,
+    },
+    /// What was admitted, by which request.
+    Admit {
+        request: u64,
+        outer: Outer,
+    },
+    /// A step that was taken, with the updates that it took in, in the order of their units, and how many admissions it sealed.
+    Turn {
+        step: u32,
+        inputs: List<Update>,
+        sealed: u32,
+    },
+}
+
+/// The one spelling of a record whose fields are in their ranges. Linear in its bytes.
+pub fn encode_record(alloc: Global, entry: &JournalRecord) -> Result<Bytes, NoMemory>
+    requires { IsRecordInRange entry.now }
+    ensures { IfOk result (λ bytes. bytes ≡ record_text entry.now) }
+{
+    spell_whole(alloc, record_room(entry), entry)
+}
+
+/// The record that has this body, the whole of it. Linear in the body.
+///
+/// `NotRecord` comes exactly where no record has it.
+pub fn decode_record(alloc: Global, body: &[u8]) -> Result<JournalRecord, RecordFault>
+    // What is read has this body.
+    ensures found { IfOk result (λ r. IsRecord r × (body.now ≡ record_text r)) }
+    // What has this body is read, unless memory runs out.
+    ensures only { (r : RecordValue) → IsRecord r → body.now ≡ record_text r → AnswersRecord result (Some r) }
+    // Which answer it is.
+    ensures exact { AnswersRecord result (record_of body.now) }
+{
+    whole_record(alloc, body)
+}
+
+/// The record that is the whole body. Linear in the body.
+#[tactic(auto, unfolding(crate::specs::Records::record_of))]
+fn whole_record(alloc: Global, body: &[u8]) -> Result<JournalRecord, RecordFault>
+    ensures { AnswersRecord result (record_of body.now) }
+{
+    let (entry, rest) = first_record(alloc, body)?;
+    if rest.is_empty() {
+        Ok(entry)
+    } else {
+        Err(RecordFault::NotRecord)
+    }
+}
+
+/// A record, by its first byte.
+#[tactic(auto, unfolding(crate::specs::Records::record_at))]
+fn first_record(alloc: Global, bytes: &[u8]) -> Result<(JournalRecord, &[u8]), FieldFault>
+    ensures { Gives (λ x. (x.0, x.1.now)) result (record_at bytes.now) }
+{
+    match bytes {
+        [] => Err(FieldFault::Misfit(Misfit::Short)),
+        [HEAD, rest @ ..] => head_of(alloc, rest),
+        [ADMIT, rest @ ..] => admit_of(alloc, rest),
+        [TURN, rest @ ..] => turn_of(alloc, rest),
+        [_, ..] => Err(bad(bytes)),
+    }
+}
+
+/// A head behind its first byte.
+#[tactic(auto, unfolding(crate::specs::Records::head_at))]
+fn head_of(alloc: Global, bytes: &[u8]) -> Result<(JournalRecord, &[u8]), FieldFault>
+    ensures { Gives (λ x. (x.0, x.1.now)) result (head_at bytes.now) }
+{
+    let (version, rest) = u8_in(bytes, 1, 2)?;
+    let (chart, rest) = head_name_of(alloc, rest)?;
+    let (unit, rest) = head_name_of(alloc, rest)?;
+    Ok((
+        JournalRecord::Head {
+            version,
+            chart,
+            unit,
+        },
+        rest,
+    ))
+}
+
+/// An admission behind its first byte.
+#[tactic(auto, unfolding(crate::specs::Records::admit_at))]
+fn admit_of(alloc: Global, bytes: &[u8]) -> Result<(JournalRecord, &[u8]), FieldFault>
+    ensures { Gives (λ x. (x.0, x.1.now)) result (admit_at bytes.now) }
+{
+    let (request, rest) = u64_of(bytes)?;
+    let (outer, rest) = Outer::read(alloc, 1 << 16, None, rest)?;
+    Ok((JournalRecord::Admit { request, outer }, rest))
+}
+
+/// A turn behind its first byte.
+#[tactic(auto, unfolding(crate::specs::Records::turn_at))]
+fn turn_of(alloc: Global, bytes: &[u8]) -> Result<(JournalRecord, &[u8]), FieldFault>
+    ensures { Gives (λ x. (x.0, x.1.now)) result (turn_at bytes.now) }
+{
+    let (step, rest) = u32_in(bytes, 0, 1 << 32)?;
+    let (count, rest) = u8_in(rest, 0, 256)?;
+    let (inputs, rest) = items_of(alloc, MAX_UNITS as u32, u32::from(count), rest)?;
+    let (sealed, rest) = u16_in(rest, 0, 1 << 16)?;
+    Ok((
+        JournalRecord::Turn {
+            step,
+            inputs,
+            sealed,
+        },
+        rest,
+    ))
+}

@@ -1,0 +1,181 @@
+//! What each part of an update is spelled as.
+ghost use Rattle.std.specs.Prelude.{◌≡◌, ◌++◌, ◌∷◌, [], ◌<◌, ◌^◌, OnOk, length};
+ghost use Rattle.std.specs.List.{flat_map, AllByRecursion};
+ghost use Rattle.wf_model.specs.declared.limits.TheConstants.{MAX_EVENTS, MAX_STATES, MAX_TRANSITIONS};
+ghost use Rattle.wf_codec.specs.Spelling.{two, four, state_text, event_text, trans_text, value_text, write_text, start_text, output_text, outer_text, spelling_of};
+ghost use Rattle.wf_codec.specs.Parts.{changes_text, doings_text};
+ghost use Rattle.wf_codec.specs.Ranges.{IsWrite, IsStart, IsOuter, IsInRange};
+
+use crate::number::{spell_four, spell_two};
+use crate::spelling::{Spell, spell_items, spell_list};
+use crate::update::TAG;
+use wf_model::{
+    ActId, EventId, NoMemory, Outer, Output, StartAt, StateId, TransId, Update, Val, Write,
+};
+
+impl Spell for StateId {
+    ghost text = { state_text };
+
+    ghost fits = { λ s. s.0 < MAX_STATES };
+
+    fn spell(&self, bytes: &mut Vec<u8>) -> Result<(), NoMemory> {
+        spell_two(self.0, bytes)
+    }
+}
+
+impl Spell for EventId {
+    ghost text = { event_text };
+
+    ghost fits = { λ e. e.0 < MAX_EVENTS };
+
+    fn spell(&self, bytes: &mut Vec<u8>) -> Result<(), NoMemory> {
+        spell_two(self.0, bytes)
+    }
+}
+
+impl Spell for TransId {
+    ghost text = { trans_text };
+
+    ghost fits = { λ t. t.0 < MAX_TRANSITIONS };
+
+    fn spell(&self, bytes: &mut Vec<u8>) -> Result<(), NoMemory> {
+        spell_two(self.0, bytes)
+    }
+}
+
+impl Spell for Val {
+    ghost text = { value_text };
+
+    ghost fits = { λ _. Unit {0} };
+
+    #[tactic(auto, unfolding(crate::specs::Spelling::value_text))]
+    fn spell(&self, bytes: &mut Vec<u8>) -> Result<(), NoMemory> {
+        match self {
+            Val::Bool(truth) => bytes.extend_from_slice(&[0, u8::from(*truth)])?,
+            Val::Int(number) => {
+                bytes.push(1)?;
+                bytes.extend_from_slice(&number.to_be_bytes())?;
+            }
+            Val::Text(text) => {
+                bytes.extend_from_slice(&[2, text.len() as u8])?;
+                bytes.extend_from_slice(text.as_slice())?;
+            }
+        }
+        Ok(())
+    }
+}
+
+impl Spell for Write {
+    ghost text = { write_text };
+
+    ghost fits = { IsWrite };
+
+    fn spell(&self, bytes: &mut Vec<u8>) -> Result<(), NoMemory> {
+        spell_two(self.var.0, bytes)?;
+        spell_two(self.trans.0, bytes)?;
+        self.val.spell(bytes)
+    }
+}
+
+impl Spell for StartAt {
+    ghost text = { start_text };
+
+    ghost fits = { IsStart };
+
+    fn spell(&self, bytes: &mut Vec<u8>) -> Result<(), NoMemory> {
+        spell_two(self.act.0, bytes)?;
+        spell_two(self.trans.0, bytes)?;
+        bytes.push(self.place)?;
+        Ok(())
+    }
+}
+
+impl Spell for Output {
+    ghost text = { output_text };
+
+    ghost fits = { λ o. o.var.0 < 2 ^ 16 };
+
+    fn spell(&self, bytes: &mut Vec<u8>) -> Result<(), NoMemory> {
+        spell_two(self.var.0, bytes)?;
+        self.val.spell(bytes)
+    }
+}
+
+/// Adds an event that happens.
+fn spell_happening(event: EventId, bytes: &mut Vec<u8>) -> Result<(), NoMemory>
+    requires { event.0 < 2 ^ 16 }
+    ensures { OnOk result (bytes.new.items ≡ bytes.old.items ++ 0 ∷ two event.0) }
+{
+    bytes.push(0)?;
+    spell_two(event.0, bytes)
+}
+
+/// Adds an item that is completed.
+fn spell_completion(
+    item: u32,
+    act: ActId,
+    outputs: &[Output],
+    bytes: &mut Vec<u8>,
+) -> Result<(), NoMemory>
+    requires act { act.0 < 2 ^ 16 }
+    requires count { length outputs.now < 256 }
+    requires each { AllByRecursion (λ o. o.var.0 < 2 ^ 16) outputs.now }
+    ensures { OnOk result (bytes.new.items ≡ bytes.old.items ++ 1 ∷ four item ++ (two act.0 ++ length outputs.now ∷ flat_map output_text outputs.now)) }
+{
+    bytes.push(1)?;
+    spell_four(item, bytes)?;
+    spell_two(act.0, bytes)?;
+    bytes.push(outputs.len() as u8)?;
+    spell_items(outputs, bytes)
+}
+
+impl Spell for Outer {
+    ghost text = { outer_text };
+
+    ghost fits = { IsOuter (2 ^ 16) };
+
+    #[tactic(auto, unfolding(crate::specs::Spelling::outer_text))]
+    fn spell(&self, bytes: &mut Vec<u8>) -> Result<(), NoMemory> {
+        match self {
+            Outer::Happen(event) => spell_happening(*event, bytes),
+            Outer::Complete { item, act, outputs } => {
+                spell_completion(*item, *act, outputs.as_slice(), bytes)
+            }
+        }
+    }
+}
+
+/// Adds what an update changes at once: its states, its variables and the events that it raises.
+#[tactic(auto, unfolding(crate::specs::Parts::changes_text), using(crate::proofs::Fits::flips_few, crate::proofs::Fits::writes_few, crate::proofs::Fits::raised_few))]
+fn spell_changes(update: &Update, bytes: &mut Vec<u8>) -> Result<(), NoMemory>
+    requires { IsInRange update.now }
+    ensures { OnOk result (bytes.new.items ≡ bytes.old.items ++ changes_text update.now) }
+{
+    spell_list(update.flips.as_slice(), bytes)?;
+    spell_list(update.writes.as_slice(), bytes)?;
+    spell_list(update.raised.as_slice(), bytes)
+}
+
+/// Adds what an update starts, what fired, and the outers of the next step.
+#[tactic(auto, unfolding(crate::specs::Parts::doings_text), using(crate::proofs::Fits::outers_fit))]
+fn spell_doings(update: &Update, bytes: &mut Vec<u8>) -> Result<(), NoMemory>
+    requires { IsInRange update.now }
+    ensures { OnOk result (bytes.new.items ≡ bytes.old.items ++ doings_text update.now) }
+{
+    spell_list(update.starts.as_slice(), bytes)?;
+    spell_list(update.fired.as_slice(), bytes)?;
+    spell_list(update.outer.as_slice(), bytes)
+}
+
+impl Spell for Update {
+    ghost text = { spelling_of };
+
+    ghost fits = { IsInRange };
+
+    fn spell(&self, bytes: &mut Vec<u8>) -> Result<(), NoMemory> {
+        bytes.extend_from_slice(&[TAG, self.from.0 as u8])?;
+        spell_four(self.step, bytes)?;
+        spell_changes(self, bytes)?;
+        spell_doings(self, bytes)
+    }
+}

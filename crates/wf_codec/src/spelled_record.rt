@@ -1,0 +1,86 @@
+//! What a record is spelled as.
+ghost use Rattle.std.specs.Prelude.{◌≡◌, ◌++◌, ◌∷◌, [], ◌<◌, ◌≤◌, ◌^◌, OnOk, length};
+ghost use Rattle.std.specs.List.{flat_map, AllByRecursion};
+ghost use Rattle.wf_model.specs.declared.limits.TheConstants.{MAX_NAME, MAX_UNITS};
+ghost use Rattle.wf_codec.specs.Spelling.{two, four, eight, outer_text, spelling_of};
+ghost use Rattle.wf_codec.specs.Ranges.{IsOuter, IsInRange};
+ghost use Rattle.wf_codec.specs.Records.{named, record_text, IsRecordInRange};
+
+use crate::number::{spell_eight, spell_four, spell_two};
+use crate::record::{ADMIT, HEAD, JournalRecord, TURN};
+use crate::spelling::{Spell, spell_items};
+use wf_model::{Name, NoMemory, Outer, Update};
+
+/// Adds a name behind its length.
+fn spell_name(name: &Name, bytes: &mut Vec<u8>) -> Result<(), NoMemory>
+    requires { length name.now ≤ MAX_NAME }
+    ensures { OnOk result (bytes.new.items ≡ bytes.old.items ++ named name.now) }
+{
+    let name = name.as_bytes();
+    bytes.push(name.len() as u8)?;
+    bytes.extend_from_slice(name)?;
+    Ok(())
+}
+
+/// Adds a head.
+fn spell_head(version: u8, chart: &Name, unit: &Name, bytes: &mut Vec<u8>) -> Result<(), NoMemory>
+    requires chart { length chart.now ≤ MAX_NAME }
+    requires unit { length unit.now ≤ MAX_NAME }
+    ensures { OnOk result (bytes.new.items ≡ bytes.old.items ++ 72 ∷ version ∷ named chart.now ++ named unit.now) }
+{
+    bytes.extend_from_slice(&[HEAD, version])?;
+    spell_name(chart, bytes)?;
+    spell_name(unit, bytes)
+}
+
+/// Adds an admission.
+fn spell_admission(request: u64, outer: &Outer, bytes: &mut Vec<u8>) -> Result<(), NoMemory>
+    requires { IsOuter (2 ^ 16) outer.now }
+    ensures { OnOk result (bytes.new.items ≡ bytes.old.items ++ 65 ∷ eight request ++ outer_text outer.now) }
+{
+    bytes.push(ADMIT)?;
+    spell_eight(request, bytes)?;
+    outer.spell(bytes)
+}
+
+/// Adds a turn.
+fn spell_turn(
+    step: u32,
+    inputs: &[Update],
+    sealed: u32,
+    bytes: &mut Vec<u8>,
+) -> Result<(), NoMemory>
+    requires count { length inputs.now ≤ MAX_UNITS }
+    requires each { AllByRecursion IsInRange inputs.now }
+    requires sealed { sealed < 2 ^ 16 }
+    ensures { OnOk result (bytes.new.items ≡ bytes.old.items ++ 84 ∷ four step ++ (length inputs.now ∷ flat_map spelling_of inputs.now ++ two sealed)) }
+{
+    bytes.push(TURN)?;
+    spell_four(step, bytes)?;
+    bytes.push(inputs.len() as u8)?;
+    spell_items(inputs, bytes)?;
+    spell_two(sealed, bytes)
+}
+
+impl Spell for JournalRecord {
+    ghost text = { record_text };
+
+    ghost fits = { IsRecordInRange };
+
+    #[tactic(auto, unfolding(crate::specs::Records::record_text), using(crate::proofs::Fits::inputs_few))]
+    fn spell(&self, bytes: &mut Vec<u8>) -> Result<(), NoMemory> {
+        match self {
+            JournalRecord::Head {
+                version,
+                chart,
+                unit,
+            } => spell_head(*version, chart, unit, bytes),
+            JournalRecord::Admit { request, outer } => spell_admission(*request, outer, bytes),
+            JournalRecord::Turn {
+                step,
+                inputs,
+                sealed,
+            } => spell_turn(*step, inputs.as_slice(), *sealed, bytes),
+        }
+    }
+}

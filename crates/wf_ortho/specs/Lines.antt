@@ -1,0 +1,25 @@
+-- The line of a component.
+use Rattle.std.specs.Prelude.{ℕ, ◌++◌, Bool, true, false, List}
+use Rattle.std.specs.List.{flat_map}
+use Rattle.std.specs.Fmt.{decimal}
+use lib.Chars.{codes}
+use Rattle.wf_model.specs.declared.ids.TransId.{TransId}
+use Rattle.wf_model.specs.declared.part.Component.{Component}
+use Rattle.wf_model.specs.declared.chart.Chart.{Chart}
+use Rattle.wf_words.specs.Names.{state_name}
+
+-- each transition as a blank, `t` and its number
+abbrev pub trans_text : TransId → List ℕ
+trans_text t = codes " t" ++ decimal t.0
+
+abbrev pub trans_list : List TransId → List ℕ
+trans_list ts = flat_map trans_text ts
+
+abbrev pub first_word : Bool → List ℕ
+first_word true = codes " in"
+first_word false = codes " out"
+
+-- component NAME, in or out at first, and the transitions that let it in and out
+unfoldable pub component_line : Chart → Component → List ℕ
+component_line chart c =
+    codes "component " ++ state_name chart c.state ++ first_word c.first ++ (codes " enter" ++ trans_list c.enter ++ (codes " leave" ++ trans_list c.leave ++ codes "\n"))

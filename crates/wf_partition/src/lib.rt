@@ -1,0 +1,9 @@
+//! What each unit is given of a chart.
+#![tactic(auto)]
+
+mod marks;
+mod part;
+mod split;
+
+pub use part::part_of;
+pub use split::split_text;

@@ -1,5 +1,5 @@
 -- Laws of components and parts, for every accepted chart.
-use Rattle.std.specs.Prelude.{ℕ, ◌≡◌, ◌<◌, Bool, true, List, length, filter}
+use Rattle.std.specs.Prelude.{ℕ, ◌≡◌, ◌<◌, Bool, true, length, filter}
 use Rattle.wf_model.specs.declared.chart.Chart.{Chart}
 use Rattle.wf_model.specs.Tree.{all_transitions}
 use Rattle.wf_model.specs.Accepted.{IsAccepted}

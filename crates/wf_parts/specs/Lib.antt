@@ -1,5 +1,6 @@
 pub mod Components
 pub mod Reads
+pub mod ReadsLaws
 pub mod Known
 pub mod Parts
 pub mod Laws

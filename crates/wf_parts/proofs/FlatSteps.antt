@@ -1,6 +1,7 @@
 -- The step on components is the step on the walk.
 use Rattle.std.proofs.Common.{◌≡◌, ℕ, ◌<◌, ◌||◌, ◌&&◌, not, Bool, true, false, List, [], length, map, filter, slice_get, unwrap_or, refl, sym, ap, ap₂, ◌∙◌, arith}
 use Rattle.std.specs.List.{list_any}
+use Rattle.std.proofs.Math.Bool.{and_comm, and-or_distrib_left}
 use Rattle.std.proofs.lemmas.Option.{unwrap_or-slice_get}
 use Rattle.std.proofs.lemmas.List.FromFn.{get_or-map-range_with_len}
 use Rattle.wf_model.specs.declared.ids.TransId.{TransId}
@@ -33,51 +34,41 @@ fires_same chart enabled t lt =
     ∙ ap (λ (b : Bool). enabled t && not b) (any_map (λ b. enabled b.0) trans_id (blockers chart t))
 
 -- some transition of a component's list fires
-any_listed : (firing test : ℕ → Bool) (ts : List ℕ) → list_any (λ t. firing t.0) (map trans_id (filter test ts)) ≡ list_any (λ t. test t && firing t) ts
-any_listed firing test ts = any_map (λ t. firing t.0) trans_id (filter test ts) ∙ any_filter firing test ts
+any_listed : (firing test : ℕ → Bool) (ts : List ℕ) → list_any (λ t. firing t.0) (map trans_id (filter test ts)) ≡ list_any (λ t. firing t && test t) ts
+any_listed firing test ts =
+    any_map (λ t. firing t.0) trans_id (filter test ts)
+    ∙ any_filter firing test ts
+    ∙ any_agree (λ t. test t && firing t) (λ t. firing t && test t) ts (λ t m. and_comm (test t) (firing t))
 
--- where the same transition lets a state in, it doesn't matter that it lets it out
+-- where a state is let in, it doesn't matter what lets it out
 in_first : (i l b : Bool) → (i || (b && not (i || l))) ≡ (i || (b && not l))
 in_first true l b = refl
 in_first false l b = refl
 
-spread : (f e l : Bool) → (f && (e || l)) ≡ ((e && f) || (l && f))
-spread true true l = refl
-spread true false true = refl
-spread true false false = refl
-spread false true true = refl
-spread false true false = refl
-spread false false true = refl
-spread false false false = refl
-
-turned : (f e : Bool) → (f && e) ≡ (e && f)
-turned true true = refl
-turned true false = refl
-turned false true = refl
-turned false false = refl
-
 module _ (chart : Chart) (ok : IsAccepted chart) (enabled : ℕ → Bool) (z : ℕ) where
   -- t fires and lets z in
   abbrev lets_in : ℕ → Bool
-  lets_in t = enters chart t z && fires_by (flat_of chart) enabled t
+  lets_in t = fires_by (flat_of chart) enabled t && enters chart t z
 
   -- t fires and lets z out
   abbrev lets_out : ℕ → Bool
-  lets_out t = leaves chart t z && fires_by (flat_of chart) enabled t
+  lets_out t = fires_by (flat_of chart) enabled t && leaves chart t z
 
+  -- one that fires lets z in
   some_enters : list_any (λ t. enters chart t z) (filter (fires chart enabled) (all_transitions chart)) ≡ list_any lets_in (all_transitions chart)
   some_enters =
       any_filter (λ t. enters chart t z) (fires chart enabled) (all_transitions chart)
       ∙ any_agree (λ t. fires chart enabled t && enters chart t z) lets_in (all_transitions chart)
-      (λ t m. ap (λ (f : Bool). f && enters chart t z) (sym (fires_same chart enabled t (transition_mem chart t m))) ∙ turned (fires_by (flat_of chart) enabled t) (enters chart t z))
+      (λ t m. ap (λ (f : Bool). f && enters chart t z) (sym (fires_same chart enabled t (transition_mem chart t m))))
 
+  -- one that fires lets z in or out
   some_moves : list_any (λ t. is_above chart (scope chart t) z) (filter (fires chart enabled) (all_transitions chart)) ≡ (list_any lets_in (all_transitions chart) || list_any lets_out (all_transitions chart))
   some_moves =
       any_filter (λ t. is_above chart (scope chart t) z) (fires chart enabled) (all_transitions chart)
       ∙ any_agree (λ t. fires chart enabled t && is_above chart (scope chart t) z) (λ t. lets_in t || lets_out t) (all_transitions chart)
       (λ t m.
       ap₂ (λ (f a : Bool). f && a) (sym (fires_same chart enabled t (transition_mem chart t m))) (below_is_moved chart ok t z (transition_mem chart t m))
-      ∙ spread (fires_by (flat_of chart) enabled t) (enters chart t z) (leaves chart t z))
+      ∙ and-or_distrib_left (fires_by (flat_of chart) enabled t) (enters chart t z) (leaves chart t z))
       ∙ any_or lets_in lets_out (all_transitions chart)
 
   -- the component's new bit, by the transitions that fire
@@ -86,6 +77,7 @@ module _ (chart : Chart) (ok : IsAccepted chart) (enabled : ℕ → Bool) (z : �
       (any_listed (fires_by (flat_of chart) enabled) (λ t. enters chart t z) (all_transitions chart))
       (any_listed (fires_by (flat_of chart) enabled) (λ t. leaves chart t z) (all_transitions chart))
 
+  -- the new tree's bit of z is the component's
   pub same_bit : (c : Tree) → IsConfiguration chart c → HaveActiveSources chart enabled c → is_in z (new_tree chart enabled c) ≡ is_in_after (fires_by (flat_of chart) enabled) (component_of chart z) (is_in z c)
   same_bit c conf active =
       walk_moves_by_rule chart enabled c z ok conf

@@ -57,4 +57,4 @@ early_not failed place n fault is = go fault (early failed place n fault is)
     go DiskFailed e = elim e [ ]
 
 pub idle : (t0 : Told) → IsLawful t0 → LeavesOnly t0 t0 (HasBodiesOf t0.may_leave)
-idle t0 law = started t0 (HasBodiesOf t0.may_leave) law (λ c now. (c, now, refl))
+idle t0 law = started t0 (HasBodiesOf t0.may_leave) law (λ c now. (c, now, refl, λ starts. starts))

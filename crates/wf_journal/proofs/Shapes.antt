@@ -1,11 +1,11 @@
 -- What a journal's file is before, between and after the strokes of an append.
-use Rattle.std.proofs.Common.{◌≡◌, ℕ, suc, ◌+◌, ◌≤◌, ◌<◌, true, false, ◌==◌, List, [], ◌∷◌, ◌++◌, length, take, drop, get_or, refl, sym, ◌∙◌, ap, subst, arith, length-append, length-take-le, take-append-drop, rules}
+use Rattle.std.proofs.Common.{◌≡◌, inl, inr, ℕ, suc, ◌+◌, ◌≤◌, ◌<◌, true, false, ◌==◌, List, [], ◌∷◌, ◌++◌, length, take, drop, get_or, refl, sym, ◌∙◌, ap, subst, arith, length-append, length-take-le, take-append-drop, rules}
 use Rattle.std.proofs.lemmas.List.{take_at, drop_more, append-nil}
 use Rattle.std.proofs.lemmas.Bool.{cond-true}
 use Rattle.std.proofs.lemmas.Nat.{from_be_bytes-to_be_bytes_4}
 use Rattle.std.specs.Int.{w32, to_be_bytes, from_be_bytes}
 use Rattle.wf_model.specs.declared.limits.TheConstants.{MAX_BODY}
-use Rattle.wf_journal.specs.Frames.{packed, fits, bodies_after, end_after, breaks_after, bodies_of, end_of, is_broken, IsAtRest}
+use Rattle.wf_journal.specs.Frames.{packed, fits, bodies_after, end_after, breaks_after, bodies_of, end_of, is_broken, IsAtRest, IsAsBefore, IsBeforeOrAfter}
 use Rattle.wf_journal.proofs.Cuts.{Cut, cut, bodies-closed, end-closed, breaks-closed}
 
 bodies-skip : (xs ys : List ℕ) → bodies_after (length xs) (xs ++ ys) ≡ bodies_after 0 ys
@@ -100,6 +100,9 @@ module _ (file : List ℕ) (place : ℕ) (rests : IsAtRest file place) where
   pub closed_bodies : (g : ℕ) (tail : List ℕ) → (g == 1) ≡ false → bodies_of (front ++ g ∷ tail) ≡ bodies_of file
   closed_bodies g tail is = cut_bodies g tail ∙ ap (λ l. bodies_of file ++ l) (bodies-closed g tail is) ∙ append-nil (bodies_of file)
 
+  pub closed_as_before : (g : ℕ) (tail : List ℕ) → (g == 1) ≡ false → IsAsBefore (bodies_of file) (front ++ g ∷ tail)
+  closed_as_before g tail is = record { bodies = closed_bodies g tail is; whole = let rest = closed_rests g tail is in rest.whole }
+
   -- a frame behind an open gate
   module _ (body : List ℕ) (some : 1 ≤ length body) (most : length body ≤ MAX_BODY) (more : List ℕ) where
     pub open_rests : IsAtRest (front ++ 1 ∷ (packed body ++ 0 ∷ more)) (place + (5 + length body))
@@ -111,3 +114,10 @@ module _ (file : List ℕ) (place : ℕ) (rests : IsAtRest file place) where
 
     pub open_bodies : bodies_of (front ++ 1 ∷ (packed body ++ 0 ∷ more)) ≡ bodies_of file ++ body ∷ []
     open_bodies = cut_bodies 1 (packed body ++ 0 ∷ more) ∙ ap (λ l. bodies_of file ++ l) (bodies-one body some most more)
+
+    pub open_after : IsBeforeOrAfter (bodies_of file) body (front ++ 1 ∷ (packed body ++ 0 ∷ more))
+    open_after = record { bodies = inr open_bodies; whole = let rest = open_rests in rest.whole }
+
+-- what is as before is before an append or after it
+pub still_before : (old : List (List ℕ)) (body file : List ℕ) → IsAsBefore old file → IsBeforeOrAfter old body file
+still_before old body file same = record { bodies = inl same.bodies; whole = same.whole }

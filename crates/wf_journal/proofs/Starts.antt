@@ -1,11 +1,11 @@
 -- What a crash may leave while a journal is started.
-use Rattle.std.proofs.Common.{◌≡◌, ℕ, ◌+◌, ◌≤◌, true, List, [], ◌∷◌, length, drop, Some, IfSome, Result, Ok, Err, IfErr, refl, sym, ◌∙◌, ap, subst, arith}
+use Rattle.std.proofs.Common.{◌≡◌, ℕ, ◌+◌, ◌≤◌, true, not, ◌||◌, nat_lt, List, [], ◌∷◌, length, drop, Some, IfSome, Result, Ok, Err, IfErr, refl, sym, ◌∙◌, ap, subst, arith, rules}
 use Rattle.std.proofs.lemmas.List.{append-nil, drop_all}
 use Rattle.wf_disk.specs.Disk.{Told, put_at, Torn, Follows, Within, Only, Elapses, IsLawful, LeavesOnly}
 use Rattle.wf_disk.proofs.Runs.{started, goes_on, from_some}
 use Rattle.wf_journal.specs.declared.fault.StartFault.{StartFault}
 use Rattle.wf_journal.specs.declared.fault.StartFault.TheVariants.{BadFrame}
-use Rattle.wf_journal.specs.Frames.{bodies_of, end_of, is_broken, IsAtRest}
+use Rattle.wf_journal.specs.Frames.{bodies_of, end_of, is_broken, can_start, IsAtRest}
 use Rattle.wf_journal.specs.Journal.{IsLeftAs, HasBodiesOf}
 
 pub short_bodies : (c : List ℕ) → length c ≤ 1 → bodies_of c ≡ []
@@ -13,6 +13,9 @@ unfolding bodies_of
 short_bodies [] short = refl
 short_bodies (a ∷ []) short = refl
 short_bodies (a ∷ b ∷ c) short = absurd (omega arith)
+
+pub short_starts : (c : List ℕ) → length c ≤ 1 → can_start c ≡ true
+short_starts c short = let few : nat_lt (length c) 2 ≡ true = search (rules, short) in ap (λ t. t || not (is_broken c)) few
 
 one_gate : IsAtRest (0 ∷ []) 0
 unfolding is_broken end_of
@@ -37,7 +40,7 @@ module _ (t0 : Told) (file : List ℕ) (law : IsLawful t0) (is : t0.image ≡ So
   P c = HasBodiesOf t0.may_leave c
 
   now_has : (c : List ℕ) → t0.may_leave c → P c
-  now_has c now = (c, now, refl)
+  now_has c now = (c, now, refl, λ starts. starts)
 
   -- after the first sync, done or failed
   pub synced : (t1 : Told) → Within t1.may_leave t0.may_leave → Elapses t0 t1 → LeavesOnly t0 t1 P
@@ -50,7 +53,7 @@ module _ (t0 : Told) (file : List ℕ) (law : IsLawful t0) (is : t0.image ≡ So
         let from = follows c now in
         let torn : Torn 0 1 file c = subst (λ f. Torn 0 1 f c) (only2 from.0 from.1) from.2 in
         let small : length c ≤ 1 = omega (arith, torn.no_longer, short) in
-        (file, law.stands file is, short_bodies c small ∙ sym (short_bodies file short))
+        (file, law.stands file is, short_bodies c small ∙ sym (short_bodies file short), λ starts. short_starts c small)
 
     pub written : LeavesOnly t0 t3 P
     written = goes_on t0 t2 t3 P so_far time3 after_write

@@ -2,7 +2,7 @@
 ghost use Rattle.std.specs.Prelude.{◌≡◌, ◌+◌, ◌≤◌, ◌<◌, ◌∷◌, [], ℕ, List, Some, OnOk, IsOk, IsErrOf, is_some, length, vec_capacity};
 ghost use Rattle.wf_disk.specs.Disk.{HasCause, IsSafeFor, LeavesOnly};
 ghost use Rattle.wf_model.specs.declared.limits.TheConstants.{MAX_BODY, MAX_JOURNAL};
-ghost use Rattle.wf_journal.specs.Frames.{bodies_of, IsBeforeOrAfter};
+ghost use Rattle.wf_journal.specs.Frames.{bodies_of, IsAsBefore, IsBeforeOrAfter};
 ghost use Rattle.wf_journal.specs.Journal.{IsSettled, IsLeft};
 
 use crate::frame::pack;
@@ -25,7 +25,7 @@ pub fn put<D: Disk>(
     ensures any_moment { (file : List ℕ) → (D.told disk.old).image ≡ Some file →
         LeavesOnly (D.told disk.old) (D.told disk.new) (IsBeforeOrAfter (bodies_of file) body.now) }
     ensures fewer { (file : List ℕ) → (D.told disk.old).image ≡ Some file → (D.told disk.new).clock < (D.told disk.old).clock + 3 →
-        LeavesOnly (D.told disk.old) (D.told disk.new) (λ c. bodies_of c ≡ bodies_of file) }
+        LeavesOnly (D.told disk.old) (D.told disk.new) (IsAsBefore (bodies_of file)) }
     ensures tells { is_some (D.told disk.new).image ≡ is_some (D.told disk.old).image }
     ensures four { OnOk result ((D.told disk.new).clock ≡ (D.told disk.old).clock + 4) }
     ensures two { IsErrOf result WriteRefused.NoMemory → (D.told disk.new).clock ≤ (D.told disk.old).clock + 2 }

@@ -1,7 +1,7 @@
 //! A journal: bodies that were appended in order, each on the disk before it is acknowledged.
 ghost use Rattle.std.specs.Prelude.{◌≡◌, ◌⊎◌, ◌+◌, ◌≤◌, ◌<◌, ◌∷◌, [], ℕ, List, true, false, nat_lt, if◌then◌else◌, Option, None, Some, IfSome, is_some, IsNone, IfOk, IfErr, IsOk, OnOk, IsErr, IsErrOf, length};
 ghost use Rattle.wf_disk.specs.Disk.{HasCause, IsSafeFor, LeavesOnly, IsSame};
-ghost use Rattle.wf_journal.specs.Frames.{bodies_of, is_broken, end_of, IsBeforeOrAfter};
+ghost use Rattle.wf_journal.specs.Frames.{bodies_of, is_broken, end_of, IsAsBefore, IsBeforeOrAfter};
 ghost use Rattle.wf_journal.specs.Journal.{IsLeft, HasBodiesOf, IsPlace, IsRead};
 ghost use Rattle.wf_journal.specs.Faults.{refusal_of};
 ghost use Rattle.wf_journal.specs.State.{IsReady};
@@ -23,8 +23,8 @@ pub struct JournalRefused<D> {
 }
 
 /// A journal on a disk. A crash at any moment leaves the bodies that were appended, in order, and of an append that
-/// wasn't acknowledged its one body or none. Contracts see its disk, the place of its closed gate, whether a disk call
-/// of an append failed, and the longest body for which it has room of its own.
+/// wasn't acknowledged its one body or none, and a journal starts on what it leaves. Contracts see its disk, the place
+/// of its closed gate, whether a disk call of an append failed, and the longest body for which it has room of its own.
 #[derive(Drop)]
 pub struct Journal<D: Disk> {
     disk: D,
@@ -51,7 +51,8 @@ impl<D: Disk> Model for Journal<D> {
 
 impl<D: Disk> Journal<D> {
     /// Finds the end of the journal on a disk, or makes a new one on a disk of fewer than two bytes. It syncs first.
-    /// A refusal hands the disk back. In linear time in the journal's bytes, with one frame in memory at a time.
+    /// A refusal hands the disk back. A crash meanwhile leaves a disk on which a journal starts, if one did before. In
+    /// linear time in the journal's bytes, with one frame in memory at a time.
     pub fn start(alloc: Global, disk: D) -> Result<Journal<D>, JournalRefused<D>>
         ensures left { IfOk result (λ journal. (journal.failed ≡ false) × IsLeft (D.told disk) (D.told journal.disk) journal.place []) }
         ensures tells { IfOk result (λ journal. is_some (D.told journal.disk).image ≡ is_some (D.told disk).image) }
@@ -110,7 +111,7 @@ impl<D: Disk> Journal<D> {
         ensures any_moment { self.old.failed ≡ false → (file : List ℕ) → (D.told self.old.disk).image ≡ Some file →
             LeavesOnly (D.told self.old.disk) (D.told self.new.disk) (IsBeforeOrAfter (bodies_of file) body.now) }
         ensures fewer { self.old.failed ≡ false → (file : List ℕ) → (D.told self.old.disk).image ≡ Some file → (D.told self.new.disk).clock < (D.told self.old.disk).clock + 3 →
-            LeavesOnly (D.told self.old.disk) (D.told self.new.disk) (λ c. bodies_of c ≡ bodies_of file) }
+            LeavesOnly (D.told self.old.disk) (D.told self.new.disk) (IsAsBefore (bodies_of file)) }
         ensures reopen { self.old.failed ≡ true → LeavesOnly (D.told self.old.disk) (D.told self.new.disk) (HasBodiesOf (D.told self.old.disk).may_leave) }
 
         ensures four { OnOk result ((D.told self.new.disk).clock ≡ (D.told self.old.disk).clock + 4) }

@@ -7,7 +7,7 @@ use Rattle.wf_model.specs.declared.chart.Chart.{Chart}
 use Rattle.wf_model.specs.Tree.{scope, all_states}
 use Rattle.wf_scopes.proofs.Rows.{row_agree, row_set, put}
 use Rattle.wf_central.specs.Kept.{bit}
-use Rattle.wf_central.proofs.Starts.{flip}
+use Rattle.wf_scopes.proofs.DefaultIn.{flip}
 use Rattle.wf_central.specs.Passes.{trans_id, chosen_from, chosen_by}
 
 -- one number more at the front

@@ -1,4 +1,3 @@
-pub mod Starts
 pub mod Firing
 pub mod Choosing
 pub mod Passing

@@ -7,7 +7,7 @@ use Rattle.wf_semantics.proofs.Bools.{not_true}
 use Rattle.wf_semantics.proofs.Children.{lt_or_ge}
 use Rattle.wf_scopes.proofs.Rows.{put, row_agree, row_len, row_set}
 use Rattle.wf_central.specs.Sight.{was_raised}
-use Rattle.wf_central.proofs.Starts.{flip}
+use Rattle.wf_scopes.proofs.DefaultIn.{flip}
 
 or_false : (b : Bool) → (b || false) ≡ b
 or_false true = refl

@@ -19,7 +19,7 @@ use wf_activities::{AllItems, done_in};
 use wf_model::{
     Chart, Checked, Entry, EventId, List, NoMemory, Outer, OuterFault, StateId, UnitId, Val, VarId,
 };
-use wf_scopes::Scopes;
+use wf_scopes::{Scopes, default_bits};
 
 /// The state of a chart after so many steps: the states that are in, the values of the variables, the events raised in the
 /// last step, and the items of each unit.
@@ -47,7 +47,7 @@ impl CentralState {
         ensures state { IfOk result (λ c. central_of checked.now c ≡ first_state checked.now) }
         ensures of { IfOk result (λ c. IsOf checked.now c) }
     {
-        let active = start::default_bits(alloc, checked.chart())?;
+        let active = default_bits(alloc, checked.chart())?;
         let store = start::first_values(alloc, checked.chart())?;
         let items = AllItems::of(alloc, checked)?;
         let scopes = Scopes::of(alloc, checked)?;

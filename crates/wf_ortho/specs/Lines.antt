@@ -19,7 +19,18 @@ abbrev pub first_word : Bool → List ℕ
 first_word true = codes " in"
 first_word false = codes " out"
 
+-- component NAME, in or out at first
+abbrev pub component_head : Chart → Component → List ℕ
+component_head chart c = codes "component " ++ state_name chart c.state ++ first_word c.first
+
+-- the transitions that let it in
+abbrev pub enter_words : Component → List ℕ
+enter_words c = codes " enter" ++ trans_list c.enter
+
+-- the transitions that let it out
+abbrev pub leave_words : Component → List ℕ
+leave_words c = codes " leave" ++ trans_list c.leave
+
 -- component NAME, in or out at first, and the transitions that let it in and out
 unfoldable pub component_line : Chart → Component → List ℕ
-component_line chart c =
-    codes "component " ++ state_name chart c.state ++ first_word c.first ++ (codes " enter" ++ trans_list c.enter ++ (codes " leave" ++ trans_list c.leave ++ codes "\n"))
+component_line chart c = component_head chart c ++ enter_words c ++ leave_words c ++ codes "\n"

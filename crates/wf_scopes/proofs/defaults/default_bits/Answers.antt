@@ -3,7 +3,7 @@ use Rattle.wf_semantics.specs.Configuration.{is_in}
 use Rattle.wf_semantics.specs.Entry.{default_tree}
 use Rattle.wf_semantics.proofs.Facts.{chart_of}
 use Rattle.wf_scopes.proofs.Rows.{row_more}
-use Rattle.wf_central.proofs.start.default_bits.Goals as goal
+use Rattle.wf_scopes.proofs.defaults.default_bits.Goals as goal
 
 pub overflow_cast-z : goal.overflow_cast-z
 overflow_cast-z c = omega (arith, (chart_of c.args.chart.now c.requires).few_states)

@@ -5,8 +5,8 @@ use Rattle.wf_model.specs.Tree.{parent}
 use Rattle.wf_semantics.specs.Configuration.{is_in}
 use Rattle.wf_semantics.specs.Entry.{default_tree}
 use Rattle.wf_scopes.proofs.Rows.{row_len}
-use Rattle.wf_central.proofs.Starts.{default_low, default_child, default_top}
-use Rattle.wf_central.proofs.start.is_default.Goals as goal
+use Rattle.wf_scopes.proofs.DefaultIn.{default_low, default_child, default_top}
+use Rattle.wf_scopes.proofs.defaults.is_default.Goals as goal
 
 pub is_child_in-requires-clause-later : goal.is_child_in-requires-clause-later
 is_child_in-requires-clause-later c =

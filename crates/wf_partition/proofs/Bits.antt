@@ -1,5 +1,5 @@
 -- Bits that are set one by one.
-use Rattle.std.proofs.Common.{◌≡◌, ◌≢◌, ℕ, zero, suc, ◌+◌, ◌<◌, ◌≤◌, ◌==◌, ◌||◌, Bool, true, false, List, [], ◌∷◌, ◌++◌, length, map, take, get_or, set, refl, sym, ◌∙◌, ap, ap₂, arith, eq-eqb, eqb-true}
+use Rattle.std.proofs.Common.{◌≡◌, ◌≢◌, ℕ, zero, suc, ◌+◌, ◌<◌, ◌≤◌, ◌==◌, ◌||◌, ◌&&◌, Bool, true, false, List, [], ◌∷◌, ◌++◌, length, map, take, get_or, set, refl, sym, ◌∙◌, ap, ap₂, arith, eq-eqb, eqb-true}
 use Rattle.std.specs.List.{range_with_len, list_any}
 use Rattle.std.proofs.lemmas.List.Folds.{list_any-append, list_any_more}
 use Rattle.wf_semantics.proofs.Bools.{not_true}
@@ -54,7 +54,7 @@ twice_from one two a (b ∷ bits) = ap₂ (λ (x : Bool) (l : List Bool). x ∷ 
 pub marked_twice : (one two : ℕ → Bool) (old bits new : List Bool) → bits ≡ marked one old → new ≡ marked two bits → new ≡ marked (λ k. one k || two k) old
 marked_twice one two old bits new first second = second ∙ ap (marked two) first ∙ twice_from one two 0 old
 
-differ : (k n : ℕ) → k ≢ n → (k == n) ≡ false
+pub differ : (k n : ℕ) → k ≢ n → (k == n) ≡ false
 differ k n h = not_true (k == n) (λ e. h (eqb-true k n e))
 
 set_from : (a k n : ℕ) (bits : List Bool) → n ≡ a + k → set bits k true ≡ marked_from a (λ m. n == m) bits
@@ -81,11 +81,11 @@ pub marked_past : (k : ℕ) (bits : List Bool) → length bits ≤ k → bits �
 marked_past k bits ge = sym (past_from 0 k bits (omega arith))
 
 -- one item more of a list
-pub items_more : {A : Type 0} (tests : A → ℕ → Bool) (xs : List A) (i : ℕ) (x : A) (old bits new : List Bool) → i < length xs → x ≡ get_or xs i x
+pub items_more : {A : Type 0} (tests : A → ℕ → Bool) (xs : List A) (i : ℕ) (x d : A) (old bits new : List Bool) → i < length xs → x ≡ get_or xs i d
     → bits ≡ marked (λ k. list_any (λ y. tests y k) (take i xs)) old → new ≡ marked (tests x) bits → new ≡ marked (λ k. list_any (λ y. tests y k) (take (i + 1) xs)) old
-items_more tests xs i x old bits new lt is before now =
+items_more tests xs i x d old bits new lt is before now =
     marked_twice (λ k. list_any (λ y. tests y k) (take i xs)) (tests x) old bits new before now
-    ∙ marked_agree _ _ old (λ k. ap (λ (b : Bool). list_any (λ y. tests y k) (take i xs) || b) (ap (λ z. tests z k) is) ∙ sym (list_any_more (λ y. tests y k) xs i x lt))
+    ∙ marked_agree _ _ old (λ k. ap (λ (b : Bool). list_any (λ y. tests y k) (take i xs) || b) (ap (λ z. tests z k) is) ∙ sym (list_any_more (λ y. tests y k) xs i d lt))
 
 -- one number more
 pub any_more : (p : ℕ → Bool) (i : ℕ) → list_any p (range_with_len 0 (i + 1)) ≡ (list_any p (range_with_len 0 i) || p i)
@@ -98,3 +98,17 @@ pub row_more_by : (tests : ℕ → ℕ → Bool) (test : ℕ → Bool) (n i : �
 row_more_by tests test n i bits new before now same =
     now ∙ marked_row (λ k. list_any (λ t. tests t k) (range_with_len 0 i)) test n bits before
     ∙ row_agree _ _ n (λ k lt. ap (λ (b : Bool). list_any (λ t. tests t k) (range_with_len 0 i) || b) (same k lt) ∙ sym (any_more (λ t. tests t k) i))
+
+-- one number more
+pub numbers_more : (tests : ℕ → ℕ → Bool) (test : ℕ → Bool) (i : ℕ) (old bits new : List Bool) → bits ≡ marked (λ k. list_any (λ t. tests t k) (range_with_len 0 i)) old
+    → new ≡ marked test bits → ((k : ℕ) → test k ≡ tests i k) → new ≡ marked (λ k. list_any (λ t. tests t k) (range_with_len 0 (i + 1))) old
+numbers_more tests test i old bits new before now same =
+    marked_twice (λ k. list_any (λ t. tests t k) (range_with_len 0 i)) test old bits new before now
+    ∙ marked_agree _ _ old (λ k. ap (λ (b : Bool). list_any (λ t. tests t k) (range_with_len 0 i) || b) (same k) ∙ sym (any_more (λ t. tests t k) i))
+
+-- a test that counts, and one that doesn't
+pub marked_counted : (counts : Bool) (test : ℕ → Bool) (old new : List Bool) → counts ≡ true → new ≡ marked test old → new ≡ marked (λ k. counts && test k) old
+marked_counted counts test old new on is = is ∙ marked_agree test (λ k. counts && test k) old (λ k. sym (ap (λ (b : Bool). b && test k) on))
+
+pub marked_skipped : (counts : Bool) (test : ℕ → Bool) (bits : List Bool) → counts ≡ false → bits ≡ marked (λ k. counts && test k) bits
+marked_skipped counts test bits off = marked_none (λ k. counts && test k) bits (λ k. ap (λ (b : Bool). b && test k) off)

@@ -3,6 +3,7 @@
 
 mod marks;
 mod part;
+mod reading;
 mod split;
 
 pub use part::part_of;

@@ -1,11 +1,34 @@
 //! Which transitions concern a unit, and what these read.
-ghost use Rattle.std.specs.Prelude.{◌≡◌, ◌<◌, length, map, IfOk};
-ghost use Rattle.wf_model.specs.Tree.{all_states, all_transitions, all_acts};
+ghost use Rattle.std.specs.Prelude.{◌≡◌, ◌==◌, ◌&&◌, ◌||◌, map, false, slice_index_or, IfOk};
+ghost use Rattle.std.specs.List.{list_any};
+ghost use Rattle.wf_model.specs.Accepted.{IsAccepted};
+ghost use Rattle.wf_model.specs.Tree.{all_states, all_transitions, source};
 ghost use Rattle.wf_parts.specs.Components.{flat_of};
 ghost use Rattle.wf_parts.specs.Known.{concerns, watches_state};
+ghost use Rattle.wf_partition.specs.Marked.{marked, moves, leads_from, AreSeen};
 
+use crate::reading::{Reads, is_set, is_state_of, mark, none_set, read_by};
 use std::alloc::Global;
-use wf_model::{Checked, Flat, List, NoMemory, UnitId};
+use wf_model::{Chart, Checked, Component, Flat, List, NoMemory, TransId, UnitId};
+
+// Sets the bits of these transitions. Grows with them.
+fn mark_all(bits: &mut List<bool>, transitions: &[TransId])
+    ensures { bits.new ≡ marked (λ t. list_any (λ x. x.0 == t) transitions.now) bits.old }
+{
+    for t in transitions {
+        mark(bits, t.0);
+    }
+}
+
+// Sets the bits of the transitions of a component, where it counts. Grows with them.
+fn mark_component(bits: &mut List<bool>, component: &Component, counts: bool)
+    ensures { bits.new ≡ marked (λ t. counts && moves component.now t) bits.old }
+{
+    if counts {
+        mark_all(bits, component.enter.as_slice());
+        mark_all(bits, component.leave.as_slice());
+    }
+}
 
 /// For each transition, whether it concerns the unit. Grows with the transitions of the unit's components.
 pub fn concerned(
@@ -17,7 +40,47 @@ pub fn concerned(
     requires flat { flat.now ≡ flat_of checked.now }
     ensures { IfOk result (λ bits. bits ≡ map (concerns checked.now unit.0) (all_transitions checked.now)) }
 {
-    Err(NoMemory)
+    let chart = checked.chart();
+    let mut bits = none_set(alloc, chart.transitions.len())?;
+    for component in flat.components.as_slice() {
+        let counts = is_state_of(chart, unit, component.state);
+        mark_component(&mut bits, component, counts);
+    }
+    Ok(bits)
+}
+
+// Sets the bit of a number, where that counts and it has one.
+fn mark_if(bits: &mut List<bool>, at: u32, counts: bool)
+    ensures { bits.new ≡ marked (λ k. counts && (at == k)) bits.old }
+{
+    if counts {
+        mark(bits, at);
+    }
+}
+
+// Sets the bits of the states from which the transitions lead that concern a unit. Grows with the transitions.
+fn mark_sources(bits: &mut List<bool>, chart: &Chart, concerned: &[bool])
+    ensures { bits.new ≡ marked (λ s. list_any (leads_from chart.now concerned.now s) (all_transitions chart.now)) bits.old }
+{
+    for (t, transition) in chart.transitions.as_slice().iter().enumerate() {
+        mark_if(bits, transition.source.0, is_set(concerned, t));
+    }
+}
+
+/// Which states a unit watches, and which variables and activities are read for it: by the guards of transitions that concern it, and by
+/// values that its own ones assign. Grows with the states, variables and activities, and with the transitions and their expressions.
+pub fn seen_by(
+    alloc: Global,
+    chart: &Chart,
+    concerned: &[bool],
+    unit: UnitId,
+) -> Result<Reads, NoMemory>
+    requires { concerned.now ≡ map (concerns chart.now unit.0) (all_transitions chart.now) }
+    ensures { IfOk result (AreSeen chart.now unit.0) }
+{
+    let mut reads = read_by(alloc, chart, concerned, unit)?;
+    mark_sources(&mut reads.states, chart, concerned);
+    Ok(reads)
 }
 
 /// For each state, whether the unit watches it. Grows with the transitions of the unit's components, and with the transitions and their
@@ -31,5 +94,7 @@ pub fn watched(
     requires flat { flat.now ≡ flat_of checked.now }
     ensures { IfOk result (λ bits. bits ≡ map (watches_state checked.now unit.0) (all_states checked.now)) }
 {
-    Err(NoMemory)
+    let concerned = concerned(alloc, checked, flat, unit)?;
+    let seen = seen_by(alloc, checked.chart(), concerned.as_slice(), unit)?;
+    Ok(seen.states)
 }

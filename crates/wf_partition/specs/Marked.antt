@@ -1,0 +1,54 @@
+-- Bits that are set, in lists that have one for each number from 0 on.
+use Rattle.std.specs.Prelude.{ℕ, ◌≡◌, ◌+◌, ◌||◌, ◌&&◌, ◌==◌, Bool, false, List, [], ◌∷◌, length, map, slice_index_or}
+use Rattle.std.specs.List.{range_with_len, list_any}
+use Rattle.wf_model.specs.declared.expr.Expr.{Expr}
+use Rattle.wf_model.specs.declared.chart.Transition.{Transition}
+use Rattle.wf_model.specs.declared.chart.Chart.{Chart}
+use Rattle.wf_model.specs.declared.part.Component.{Component}
+use Rattle.wf_model.specs.Tree.{all_states, all_transitions, all_acts, source}
+use Rattle.wf_parts.specs.Reads.{reads_state, reads_var, reads_act, guard_reads, values_read}
+use Rattle.wf_parts.specs.Known.{concerns, is_own, is_such, is_read, watches_state}
+use Rattle.wf_partition.specs.declared.reading.Reads.{Reads}
+
+-- the bits of the numbers from a on, with those set whose numbers pass
+unfoldable pub marked_from : ℕ → (ℕ → Bool) → List Bool → List Bool
+marked_from a test [] = []
+marked_from a test (bit ∷ bits) = (bit || test a) ∷ marked_from (a + 1) test bits
+
+-- the bits, with those set whose numbers pass
+abbrev pub marked : (ℕ → Bool) → List Bool → List Bool
+marked test bits = marked_from 0 test bits
+
+-- what passes is added: the states that are read so, the variables and the activities
+pub record Adds (test : (Expr → Bool) → Bool) (old new : Reads) : Type 0 where
+  pub states : new.states ≡ marked (λ s. test (reads_state s)) old.states
+  pub vars : new.vars ≡ marked (λ x. test (reads_var x)) old.vars
+  pub acts : new.acts ≡ marked (λ a. test (reads_act a)) old.acts
+
+-- for each state, variable and activity, whether what reads it passes
+pub record AreReads (chart : Chart) (test : (Expr → Bool) → Bool) (reads : Reads) : Type 0 where
+  pub states : reads.states ≡ map (λ s. test (reads_state s)) (all_states chart)
+  pub vars : reads.vars ≡ map (λ x. test (reads_var x)) (range_with_len 0 (length chart.vars))
+  pub acts : reads.acts ≡ map (λ a. test (reads_act a)) (all_acts chart)
+
+-- its guard reads so, where that counts, or a value that it assigns, where these count
+abbrev pub counted_reads : Bool → Bool → Transition → (Expr → Bool) → Bool
+counted_reads guard values trans reads = (guard && guard_reads reads trans) || (values && values_read reads trans)
+
+-- transition t is one that concerns u, whose guard reads so, or u's own, and a value that it assigns reads so
+abbrev pub reads_at : Chart → ℕ → (Expr → Bool) → ℕ → Bool
+reads_at chart u reads t = (concerns chart u t && is_such (guard_reads reads) chart t) || (is_own chart u t && is_such (values_read reads) chart t)
+
+-- transition t lets the component's state in or out
+abbrev pub moves : Component → ℕ → Bool
+moves component t = list_any (λ x. x.0 == t) component.enter || list_any (λ x. x.0 == t) component.leave
+
+-- transition t is one of these, and leads from state s
+abbrev pub leads_from : Chart → List Bool → ℕ → ℕ → Bool
+leads_from chart bits s t = slice_index_or bits t false && (source chart t == s)
+
+-- for each state, whether u watches it, and for each variable and activity, whether a guard that concerns u reads it, or a value that u assigns
+pub record AreSeen (chart : Chart) (u : ℕ) (seen : Reads) : Type 0 where
+  pub states : seen.states ≡ map (watches_state chart u) (all_states chart)
+  pub vars : seen.vars ≡ map (λ x. is_read chart u (reads_var x)) (range_with_len 0 (length chart.vars))
+  pub acts : seen.acts ≡ map (λ a. is_read chart u (reads_act a)) (all_acts chart)

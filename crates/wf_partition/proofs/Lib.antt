@@ -1,3 +1,4 @@
 pub mod Bits
 pub mod Adding
 pub mod Concerned
+pub mod UnitTexts

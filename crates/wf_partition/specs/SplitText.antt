@@ -1,5 +1,5 @@
 -- The text of a chart that is split into parts.
-use Rattle.std.specs.Prelude.{ℕ, ◌++◌, Bool, true, false, List, map, filter, length}
+use Rattle.std.specs.Prelude.{◌≡◌, ℕ, ◌++◌, Bool, true, false, List, All, map, filter, length, slice_get, unwrap_or}
 use Rattle.std.specs.List.{flat_map, range_with_len}
 use Rattle.std.specs.Fmt.{decimal}
 use lib.Chars.{codes}
@@ -23,7 +23,7 @@ abbrev pub name_text : List ℕ → List ℕ
 name_text name = codes " " ++ name
 
 -- a word, and names behind it
-abbrev pub names_line : List ℕ → List (List ℕ) → List ℕ
+unfoldable pub names_line : List ℕ → List (List ℕ) → List ℕ
 names_line word names = word ++ flat_map name_text names ++ codes "\n"
 
 -- the names of the states that the unit watches, and of the variables, events and activities that it knows
@@ -33,6 +33,13 @@ known_lines chart part =
     ++ (names_line (codes "vars") (map (λ k. var_name chart k.id) part.vars)
     ++ (names_line (codes "events") (map (λ k. event_name chart k.id) part.events)
     ++ names_line (codes "acts") (map (λ k. act_name chart k.id) part.acts)))
+
+abbrev pub bit : List Bool → ℕ → Bool
+bit bits s = unwrap_or (slice_get bits s) false
+
+-- of each state that the unit knows, the bit tells whether it watches it
+abbrev pub AreWatched : Chart → Part → List Bool → Type 0
+AreWatched chart part bits = All (λ k. bit bits k.id.0 ≡ watches_state chart part.unit.0 k.id.0) part.states
 
 -- unit NAME, its components, the guards that concern it, and what it knows
 unfoldable pub part_text : Chart → Part → List ℕ

@@ -18,6 +18,47 @@ from X1 to X2 on g;
 from X to X on f;
 ";
 
+const PRIORITIES_PARTS: &str = "unit a
+component R in enter leave
+component X in enter t4 leave t1 t2
+component X1 in enter t4 leave t0 t1 t2 t3
+component X2 out enter t0 t3 leave t1 t2 t4
+component Y out enter t1 leave t2 t4
+component Z out enter t2 leave t1 t4
+guard t0 own unless t1 t2 t4
+guard t1 own unless
+guard t2 own unless t1
+guard t3 own unless t0 t1 t2 t4
+guard t4 own unless t1 t2
+states X X1
+vars
+events e f g
+acts
+";
+
+/// Two units, the first of which owns the only transition.
+const TWO: &str = "chart two; unit a; unit b; event go at a;
+or R at a { basic P at a; basic Q at b; }
+from P to Q on go;
+";
+
+const TWO_PARTS: &str = "unit a
+component R in enter leave
+component P in enter leave t0
+guard t0 own unless
+states P
+vars
+events go
+acts
+unit b
+component Q out enter t0 leave
+guard t0 other unless
+states P
+vars
+events go
+acts
+";
+
 #[test]
 fn central(rt: HostRuntime) -> Result<(), Fail> {
     let rows = [
@@ -47,6 +88,24 @@ fn central(rt: HostRuntime) -> Result<(), Fail> {
             let outcome = run(rt.alloc(), "central", input, ends)?;
             assert_eq!(rt; outcome.status, Status::Ok, "at {script}");
             assert_eq!(rt; outcome.text.as_slice(), text.as_bytes(), "at {script}");
+        }
+    }
+    Ok(())
+}
+
+#[test]
+fn split(rt: HostRuntime) -> Result<(), Fail> {
+    for (chart, text) in [(TWO, TWO_PARTS), (PRIORITIES, PRIORITIES_PARTS)] {
+        for script in ["", "---\nno script\n"] {
+            let input = input_of(rt.alloc(), chart, script)?;
+            let ends = Ends {
+                piece: 4096,
+                failing_reads: &[],
+                failing_writes: &[],
+            };
+            let outcome = run(rt.alloc(), "split", input, ends)?;
+            assert_eq!(rt; outcome.status, Status::Ok, "at {chart}");
+            assert_eq!(rt; outcome.text.as_slice(), text.as_bytes(), "at {chart}");
         }
     }
     Ok(())

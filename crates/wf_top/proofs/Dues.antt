@@ -16,11 +16,12 @@ use Rattle.wf_audit.specs.declared.script.ScriptFault.TheVariants as script
 use Rattle.wf_audit.specs.Lines.{lines_of, chart_part, script_part}
 use Rattle.wf_audit.specs.Script.{script_of}
 use Rattle.wf_audit.specs.CentralText.{central_text}
+use Rattle.wf_partition.specs.SplitText.{split_text}
 use Rattle.wf_audit.proofs.Counted.{IsNamed, script_named}
 use Rattle.wf_top.specs.declared.command.Command.{Command}
-use Rattle.wf_top.specs.declared.command.Command.TheVariants.{Check, Central}
+use Rattle.wf_top.specs.declared.command.Command.TheVariants.{Check, Central, Split}
 use Rattle.wf_top.specs.declared.answer.Answer.{Answer}
-use Rattle.wf_top.specs.Answers.{answer, answer_of, answer_within, chart_answer, central_answer, lines_answer, chart_in}
+use Rattle.wf_top.specs.Answers.{answer, answer_of, answer_within, chart_answer, central_answer, lines_answer, run_answer, chart_in}
 use Rattle.wf_top.specs.Top.{Ends, Answers, IsDue, MayAnswer}
 
 -- the text was written whole, or a write failed behind a front part
@@ -62,9 +63,11 @@ either_answered : (few : Bool) (a b : Answer) → IsAnswered a.status → IsAnsw
 either_answered true a b first second = first
 either_answered false a b first second = second
 
+run_answered : (text : List ℕ) → IsAnswered (run_answer text).status
+run_answered text = either_answered (nat_le (length text) MAX_REPORT) (answer status.Ok text) (answer status.Limit too_long_report) tt tt
+
 lines_answered : (chart : Chart) (found : Result (List (ℕ × CentralLine)) ScriptFault) → IsNamed found → IsAnswered (lines_answer chart found).status
-lines_answered chart (Ok lines) named =
-    either_answered (nat_le (length (central_text chart lines)) MAX_REPORT) (answer status.Ok (central_text chart lines)) (answer status.Limit too_long_report) tt tt
+lines_answered chart (Ok lines) named = run_answered (central_text chart lines)
 lines_answered chart (Err (script.Refused line)) named = tt
 lines_answered chart (Err script.NoMemory) named = absurd named
 
@@ -78,6 +81,7 @@ chart_answered : (command : Command) (script : List ℕ) (found : Result Chart (
 chart_answered command script (Err line) = tt
 chart_answered Check script (Ok chart) = tt
 chart_answered Central script (Ok chart) = central_answered chart script
+chart_answered Split script (Ok chart) = run_answered (split_text chart)
 
 within_answered : (command : Command) (input : List ℕ) → IsAnswered (answer_within command input).status
 unfolding answer_within

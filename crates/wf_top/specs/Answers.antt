@@ -21,15 +21,17 @@ use Rattle.wf_audit.specs.declared.script.ScriptFault.TheVariants as script
 use Rattle.wf_audit.specs.Lines.{lines_of, chart_part, script_part}
 use Rattle.wf_audit.specs.Script.{script_of}
 use Rattle.wf_audit.specs.CentralText.{central_text}
+use Rattle.wf_partition.specs.SplitText.{split_text}
 use Rattle.wf_top.specs.declared.command.Command.{Command}
-use Rattle.wf_top.specs.declared.command.Command.TheVariants.{Check, Central}
+use Rattle.wf_top.specs.declared.command.Command.TheVariants.{Check, Central, Split}
 use Rattle.wf_top.specs.declared.answer.Answer.{Answer}
 
 -- ---- words
 
 abbrev pub command_named : List ℕ → Option Command
 command_named word =
-    if bytes_eq word (codes "check") then Some Check else (if bytes_eq word (codes "central") then Some Central else None)
+    if bytes_eq word (codes "check") then Some Check
+    else (if bytes_eq word (codes "central") then Some Central else (if bytes_eq word (codes "split") then Some Split else None))
 
 -- the command that the words name: one word, and no other
 abbrev pub command_of : List (List ℕ) → Option Command
@@ -56,7 +58,7 @@ chart_in text = chart_from (chart_of text)
 abbrev pub answer : Status → List ℕ → Answer
 answer s text = record { status = s; text = text }
 
--- the text of a run, unless it is too long
+-- the text that a command writes, unless it is too long
 abbrev pub run_answer : List ℕ → Answer
 run_answer text = if nat_le (length text) MAX_REPORT then answer status.Ok text else answer status.Limit too_long_report
 
@@ -75,6 +77,7 @@ abbrev pub chart_answer : Command → List ℕ → Result Chart (List ℕ) → A
 chart_answer command script (Err line) = answer status.ChartRefused line
 chart_answer Check script (Ok chart) = answer status.Ok (accepted_line chart)
 chart_answer Central script (Ok chart) = central_answer chart script
+chart_answer Split script (Ok chart) = run_answer (split_text chart)
 
 -- the answer to an input that isn't too long: its chart, then what the command does with it
 unfoldable pub answer_within : Command → List ℕ → Answer

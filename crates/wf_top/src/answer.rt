@@ -7,6 +7,7 @@ ghost use Rattle.wf_top.specs.Answers as spec;
 use crate::central::central;
 use crate::charts::chart_in;
 use crate::command::Command;
+use crate::split::split;
 use std::alloc::Global;
 use wf_audit::divide;
 use wf_model::{Bytes, Checked, NoMemory, Status};
@@ -43,6 +44,7 @@ pub fn answer_to(alloc: Global, command: Command, input: &[u8]) -> Result<Answer
         Ok(chart) => match command {
             Command::Check => accepted(alloc, &chart),
             Command::Central => central(alloc, &chart, parts.script),
+            Command::Split => split(alloc, &chart),
         },
     }
 }

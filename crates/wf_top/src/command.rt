@@ -11,6 +11,8 @@ pub enum Command {
     Check,
     /// Run the script of the input on its chart, in one place.
     Central,
+    /// Cut the chart of the input into the parts of its units.
+    Split,
 }
 
 fn command_named(word: &[u8]) -> Option<Command>
@@ -20,6 +22,8 @@ fn command_named(word: &[u8]) -> Option<Command>
         Some(Command::Check)
     } else if word == b"central".as_slice() {
         Some(Command::Central)
+    } else if word == b"split".as_slice() {
+        Some(Command::Split)
     } else {
         None
     }

@@ -5,6 +5,7 @@ mod answer;
 mod central;
 mod charts;
 mod command;
+mod split;
 mod top;
 
 pub use top::mentor;

@@ -25,10 +25,12 @@ fn finish<K: Sink>(sink: &mut K, status: Status, text: &[u8]) -> Status
 }
 
 /// Does what the words say over all that the source has left, writes to the sink, and tells how it ended. The word
-/// `check` checks the chart of an input, the word `central` runs its script on the chart. No command reads the clock yet.
+/// `check` checks the chart of an input, the word `central` runs its script on the chart, the word `split` cuts the chart
+/// into the parts of its units. No command reads the clock yet.
 ///
 /// Grows with the input, with what is written, and with the states times their depth; a step of a run grows with the
-/// states times their depth and with the transitions.
+/// states times their depth and with the transitions; `split` grows with the states and with the transitions, each times
+/// the transitions and the depth of states, and with the units times the chart.
 pub fn mentor<S: Source, K: Sink, C: Clock>(
     alloc: Global,
     words: &List<Bytes>,

@@ -1,10 +1,10 @@
 -- A disk in memory tells its moments from a record of its strokes.
-use Rattle.std.specs.Prelude.{◌≡◌, ℕ, zero, suc, ◌+◌, ◌-◌, ◌^◌, ◌≤◌, min, Bool, true, ◌||◌, ◌==◌, nat_le, if◌then◌else◌, List, [], ◌∷◌, ◌++◌, length, drop, Option, None, Some, is_some, unwrap_or}
+use Rattle.std.specs.Prelude.{◌≡◌, ◌≢◌, ℕ, zero, suc, ◌+◌, ◌-◌, ◌^◌, ◌≤◌, min, Bool, true, ◌||◌, ◌==◌, nat_lt, if◌then◌else◌, List, [], ◌∷◌, ◌++◌, length, drop, Option, None, Some, is_some, unwrap_or}
 use mathlib.Core.Logic.{inr}
 use Rattle.std.proofs.Common.{refl, sym, ap, arith, ◌∙◌}
-use Rattle.wf_disk.specs.Disk.{Told, Only, IsLawful}
+use Rattle.wf_disk.specs.Disk.{Told, Only, IsLawful, last_count}
 use Rattle.wf_disk.specs.Strokes.{Stroke, State, Outcome, Since, image_after, left_after, are_fit, are_writes, first_state, after, state_after}
-use Rattle.wf_disk.specs.Arms.{is_counted, fate_at}
+use Rattle.wf_disk.specs.Arms.{fate_at}
 use Rattle.wf_disk.specs.declared.arm.Arm.{Arm}
 use Rattle.wf_disk.specs.declared.arm.Armed.{Armed}
 use Rattle.wf_disk.specs.declared.arm.Fate.{Fate}
@@ -64,18 +64,23 @@ pub record KeepsRoom (old new : Held) (bytes writes : ℕ) : Type 0 where
 
 -- a count with one more, where it doesn't stand at its greatest value
 abbrev pub one_more : ℕ → ℕ
-one_more count = min (count + 1) (2 ^ 64 - 1)
+one_more count = min (count + 1) last_count
 
--- a clock at its greatest value stops the disk for good
+-- whether it has stopped before the stroke that moves the clock to n. A clock at its end stops it for good.
+abbrev pub is_stopped_for : Held → ℕ → Bool
+is_stopped_for m n = is_some m.stop || nat_lt last_count n
+
+-- what the stroke that moves the clock to n does
+abbrev pub fate_for : Held → ℕ → Fate
+fate_for m n = if is_stopped_for m n then fate.Fails else fate_at m.arm n
+
+-- whether it has stopped now
 abbrev pub has_stopped : Held → Bool
-has_stopped m = is_some m.stop || (m.clock == 2 ^ 64 - 1)
+has_stopped m = is_stopped_for m (m.clock + 1)
 
 -- what the next stroke does
 abbrev pub fate_of : Held → Fate
-fate_of m = if has_stopped m then fate.Fails else fate_at m.arm (m.clock + 1)
-
-abbrev pub fails_at : Held → ℕ → Bool
-fails_at m n = is_some m.stop || (nat_le (2 ^ 64) n || is_counted m.arm n)
+fate_of m = fate_for m (m.clock + 1)
 
 -- one more stroke was done
 abbrev pub with_write : Held → ℕ → List ℕ → Held
@@ -127,7 +132,7 @@ told_of m = record {
   moment = length m.strokes;
   may_leave = Outcome (state_of m);
   left_since = λ t c. Since (first_state m.first) t m.strokes c;
-  is_to_fail = λ n. fails_at m n ≡ true;
+  is_to_fail = λ n. fate_for m n ≢ fate.Done;
   has_room = λ writes bytes. (writes ≤ m.writes) × (bytes ≤ m.room);
 }
 

@@ -1,6 +1,6 @@
 //! What a disk in memory does at the stroke for which it is armed.
 ghost use Rattle.std.specs.Prelude.{◌≡◌, ◌+◌, ◌==◌, Option};
-ghost use Rattle.wf_disk.specs.Arms.{fate_at, fate_by};
+ghost use Rattle.wf_disk.specs.Arms.{is_counted, fate_at, fate_by};
 
 /// What a crash does to what wasn't synced.
 #[derive(Clone, Copy, Debug, PartialEq, Eq)]
@@ -44,7 +44,7 @@ pub enum Fate {
 impl Armed {
     // Whether the stroke that moves the clock to this number is the counted one.
     fn counts(&self, number: u64) -> bool
-        ensures { result ≡ (self.now.after + self.now.stroke == number) }
+        ensures { result ≡ is_counted self.now number }
     {
         self.after <= number && number - self.after == u64::from(self.stroke)
     }

@@ -1,6 +1,6 @@
 //! A disk in memory, which fails and crashes where it is told to.
 ghost use Rattle.std.specs.Prelude.{◌≡◌, ◌≢◌, ◌↔◌, ◌+◌, ◌-◌, ◌≤◌, ◌^◌, ◌<◌, ℕ, Bool, true, false, Option, Some, None, List, length, take, drop, is_some, unwrap_or, IsTrue, IsOk, IsErr, IsErrOf, OnOk, OnErr, IfOk, IfSome, vec_capacity};
-ghost use Rattle.wf_disk.specs.Disk.{Told, put_at, Torn, Follows, Within, Only, Elapses, IsSame, IsDown, Strikes, GoesToPlan, HasCause};
+ghost use Rattle.wf_disk.specs.Disk.{Told, put_at, Torn, Follows, Within, Only, Elapses, IsSame, IsDown, Strikes, GoesToPlan, HasCause, last_count};
 ghost use Rattle.wf_disk.specs.declared.arm.Fate.TheVariants.{Done, Fails};
 
 use crate::arm::{Arm, Armed, Fate, Outcome, fate_at};
@@ -85,7 +85,7 @@ impl MemDisk {
     /// Whether it has stopped: at a counted stroke, or since its clock stands at the greatest `u64`.
     pub fn stopped(&self) -> bool
         ensures stopped { result ≡ has_stopped self.now }
-        ensures early { result ≡ false → self.now.clock < 2 ^ 64 - 1 }
+        ensures early { result ≡ false → self.now.clock < last_count }
     {
         self.stop.is_some() || self.clock == u64::MAX
     }
@@ -207,7 +207,7 @@ impl MemDisk {
     // What the next stroke does.
     fn fate(&self) -> Fate
         ensures fate { result ≡ fate_of self.now }
-        ensures early { result ≢ Fails → self.now.clock < 2 ^ 64 - 1 }
+        ensures early { result ≢ Fails → self.now.clock < last_count }
     {
         if self.stopped() {
             return Fate::Fails;

@@ -1,9 +1,7 @@
 -- A disk in memory tells its moments from a record of its strokes.
-use Rattle.std.specs.Prelude.{◌≡◌, ◌≢◌, ℕ, zero, suc, ◌+◌, ◌-◌, ◌^◌, ◌≤◌, min, Bool, true, ◌||◌, ◌==◌, nat_lt, if◌then◌else◌, List, [], ◌∷◌, ◌++◌, length, drop, Option, None, Some, is_some, unwrap_or}
-use mathlib.Core.Logic.{inr}
-use Rattle.std.proofs.Common.{refl, sym, ap, arith, ◌∙◌}
-use Rattle.wf_disk.specs.Disk.{Told, Only, IsLawful, last_count}
-use Rattle.wf_disk.specs.Strokes.{Stroke, State, Outcome, Since, image_after, left_after, are_fit, are_writes, first_state, after, state_after}
+use Rattle.std.specs.Prelude.{◌≡◌, ◌≢◌, ℕ, ◌+◌, ◌≤◌, min, Bool, true, ◌||◌, ◌==◌, nat_lt, if◌then◌else◌, List, [], ◌∷◌, ◌++◌, length, drop, Option, None, Some, is_some, unwrap_or}
+use Rattle.wf_disk.specs.Disk.{Told, Only, last_count}
+use Rattle.wf_disk.specs.Strokes.{Stroke, State, Outcome, Since, image_after, left_after, are_fit, are_writes, first_state, state_after}
 use Rattle.wf_disk.specs.Arms.{fate_at}
 use Rattle.wf_disk.specs.declared.arm.Arm.{Arm}
 use Rattle.wf_disk.specs.declared.arm.Armed.{Armed}
@@ -134,30 +132,6 @@ told_of m = record {
   left_since = λ t c. Since (first_state m.first) t m.strokes c;
   is_to_fail = λ n. fate_for m n ≢ fate.Done;
   has_room = λ writes bytes. (writes ≤ m.writes) × (bytes ≤ m.room);
-}
-
-pub image-state : (s : State) (strokes : List Stroke) → (state_after s strokes).image ≡ image_after s.image strokes
-image-state s [] = refl
-image-state s (Stroke.Wrote at bytes ∷ strokes) = image-state (after s (Stroke.Wrote at bytes)) strokes
-image-state s (Stroke.Synced ∷ strokes) = image-state (after s Stroke.Synced) strokes
-
-counts_from : (s : State) (strokes : List Stroke) (t : ℕ) (c : List ℕ) → t ≤ length strokes → Outcome (state_after s strokes) c → Since s t strokes c
-counts_from s [] t c within now = now
-counts_from s (stroke ∷ strokes) zero c within now = inr (counts_from (after s stroke) strokes zero c (omega arith) now)
-counts_from s (stroke ∷ strokes) (suc t) c within now = counts_from (after s stroke) strokes t c (omega arith) now
-
-only_at : (s : State) (strokes : List Stroke) (c : List ℕ) → Since s (length strokes) strokes c → Outcome (state_after s strokes) c
-only_at s [] c left = left
-only_at s (stroke ∷ strokes) c left = only_at (after s stroke) strokes c left
-
-same_image : (a b : List ℕ) → Some a ≡ Some b → b ≡ a
-same_image a b is = sym (ap (λ o. unwrap_or o a) is)
-
-pub lawful_memory : (m : Held) → IsLawful (told_of m)
-lawful_memory m = record {
-  stands = λ file is. inr (same_image _ _ is ∙ sym (image-state (first_state m.first) m.strokes));
-  counts_now = λ t within c now. counts_from (first_state m.first) m.strokes t c within now;
-  only_now = λ c left. only_at (first_state m.first) m.strokes c left;
 }
 
 -- what is true of the fields of a disk in memory

@@ -217,7 +217,8 @@ impl MemDisk {
 }
 
 impl Disk for MemDisk {
-    ghost use Rattle.wf_disk.specs.Memory.{told_of, lawful_memory, image_of, after_read, after_write, after_sync, fate_of, has_stopped, IsButForRoom};
+    ghost use Rattle.wf_disk.specs.MemoryLaws.{lawful_memory};
+    ghost use Rattle.wf_disk.specs.Memory.{told_of, image_of, after_read, after_write, after_sync, fate_of, has_stopped, IsButForRoom};
 
     ghost told = { told_of };
 

@@ -26,6 +26,7 @@ pub record Held : Type 0 where
   pub room : ℕ
   pub writes : ℕ
 
+-- its bytes now
 abbrev pub image_of : Held → List ℕ
 image_of m = image_after m.first m.strokes
 
@@ -45,9 +46,11 @@ revived m = record (begun_anew m (left_by (unwrap_or m.stop outcomes.Keep) m)) {
 abbrev pub new_disk : Held
 new_disk = record { first = []; strokes = []; synced = 0; clock = 0; faults = 0; stop = None; arm = None; room = 0; writes = 0 }
 
+-- the same disk with this stroke from now on as the counted one
 abbrev pub armed : Held → ℕ → Arm → Held
 armed m stroke what = record m { arm = Some (record { after = m.clock; stroke = stroke; what = what }) }
 
+-- the same disk with no arm
 abbrev pub disarmed : Held → Held
 disarmed m = record m { arm = None }
 
@@ -90,9 +93,11 @@ with_sync m =
     if m.synced == length m.strokes then m
     else record m { strokes = m.strokes ++ Stroke.Synced ∷ []; synced = length m.strokes + 1 }
 
+-- one more stroke was made
 abbrev pub counted : Held → Held
 counted m = record m { clock = one_more m.clock }
 
+-- a stroke failed, and did nothing
 abbrev pub failed : Held → Held
 failed m = record m { clock = one_more m.clock; faults = one_more m.faults }
 
@@ -108,20 +113,23 @@ after_read m = if has_stopped m then faulted m else m
 abbrev pub stopped_by : Held → CrashOutcome → Held
 stopped_by m outcome = record (failed m) { stop = Some outcome }
 
--- after a write by its fate, and after a sync
+-- after a write, by its fate
 abbrev pub after_write : Held → ℕ → List ℕ → Fate → Held
 after_write m at bytes fate.Done = counted (with_write m at bytes)
 after_write m at bytes fate.Fails = failed m
 after_write m at bytes (fate.Stops outcome) = stopped_by (with_write m at bytes) outcome
 
+-- after a sync, by its fate
 abbrev pub after_sync : Held → Fate → Held
 after_sync m fate.Done = counted (with_sync m)
 after_sync m fate.Fails = failed m
 after_sync m (fate.Stops outcome) = stopped_by m outcome
 
+-- its image, and what a crash may leave besides
 abbrev pub state_of : Held → State
 state_of m = state_after (first_state m.first) m.strokes
 
+-- what it tells as a disk
 abbrev pub told_of : Held → Told
 told_of m = record {
   image = Some (image_of m);

@@ -74,6 +74,7 @@ abbrev pub after : State → Stroke → State
 after s (Stroke.Wrote at bytes) = record { image = put_at s.image at bytes; may = λ c. (d : List ℕ) × Outcome s d × Torn at (length bytes) d c }
 after s Stroke.Synced = record { image = s.image; may = λ c. c ≡ s.image }
 
+-- after these strokes
 abbrev pub state_after : State → List Stroke → State
 state_after s [] = s
 state_after s (stroke ∷ strokes) = state_after (after s stroke) strokes

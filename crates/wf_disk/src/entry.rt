@@ -8,11 +8,14 @@ use crate::image::{fill_over, put_over};
 /// A stroke that was done. The bytes of all writes stand in one buffer, in order.
 #[derive(Clone, Copy, Debug)]
 pub enum Entry {
+    /// A write of so many bytes at this place.
     Wrote { at: u64, len: usize },
+    /// A sync.
     Synced,
 }
 
-/// Does strokes again, over an image that has room for all that they write.
+/// Does strokes again, over an image that has room for all that they write. In linear time in the entries and in what
+/// they write.
 pub fn redo(entries: &[Entry], written: &[u8], image: &mut Vec<u8>)
     requires filled { total entries.now ≤ length written.now }
     requires fit { do_fit (length image.old.items) (vec_capacity image.old) (ranges_in entries.now) ≡ true }
@@ -30,7 +33,8 @@ pub fn redo(entries: &[Entry], written: &[u8], image: &mut Vec<u8>)
     }
 }
 
-/// Fills each range that strokes wrote with 0xFF, over an image that has room for them.
+/// Fills each range that strokes wrote with 0xFF, over an image that has room for them. In linear time in the entries
+/// and in what they wrote.
 pub fn tear(entries: &[Entry], image: &mut Vec<u8>)
     requires fit { do_fit (length image.old.items) (vec_capacity image.old) (ranges_in entries.now) ≡ true }
     ensures image { image.new.items ≡ torn_over image.old.items (ranges_in entries.now) }

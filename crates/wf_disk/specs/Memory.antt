@@ -97,7 +97,7 @@ with_sync m =
 abbrev pub counted : Held → Held
 counted m = record m { clock = one_more m.clock }
 
--- a stroke failed, and did nothing
+-- one more stroke was made, which failed
 abbrev pub failed : Held → Held
 failed m = record m { clock = one_more m.clock; faults = one_more m.faults }
 

@@ -1,6 +1,5 @@
 //! The text of a chart that is split into parts.
-ghost use Rattle.std.specs.Prelude.{◌≡◌, ◌<◌, ◌++◌, codes, flat_map, map, filter, length, unwrap_or, slice_get, false, IfOk, OnOk};
-ghost use Rattle.wf_model.specs.Tree.{all_states};
+ghost use Rattle.std.specs.Prelude.{◌≡◌, ◌<◌, ◌++◌, codes, flat_map, map, filter, length, IfOk, OnOk};
 ghost use Rattle.wf_words.specs.Names as named;
 ghost use Rattle.wf_parts.specs.Components.{flat_of};
 ghost use Rattle.wf_parts.specs.Known.{watches_state};

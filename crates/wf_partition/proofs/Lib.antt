@@ -1,3 +1,6 @@
 pub mod Bits
 pub mod Adding
 pub mod Concerned
+pub mod Few
+pub mod Numbered
+pub mod Known

@@ -66,11 +66,11 @@ fn mark_vars(vars: &mut List<bool>, outputs: &[VarId])
     }
 }
 
-// Sets the bits of an activity's outputs, where it is the unit's.
-fn mark_outputs(vars: &mut List<bool>, act: &Activity, unit: UnitId)
-    ensures { vars.new ≡ marked (λ x. (act.now.unit.0 == unit.0) && list_any (λ v. v.0 == x) act.now.outputs) vars.old }
+// Sets the bits of an activity's outputs, where it counts.
+fn mark_outputs(vars: &mut List<bool>, act: &Activity, counts: bool)
+    ensures { vars.new ≡ marked (λ x. counts && list_any (λ v. v.0 == x) act.now.outputs) vars.old }
 {
-    if act.unit.0 == unit.0 {
+    if counts {
         mark_vars(vars, act.outputs.as_slice());
     }
 }
@@ -80,7 +80,7 @@ fn mark_given(vars: &mut List<bool>, chart: &Chart, unit: UnitId)
     ensures { vars.new ≡ marked (λ x. list_any (gives_at chart.now unit.0 x) (all_acts chart.now)) vars.old }
 {
     for act in chart.acts.as_slice() {
-        mark_outputs(vars, act, unit);
+        mark_outputs(vars, act, act.unit.0 == unit.0);
     }
 }
 

@@ -1,5 +1,6 @@
 //! The part of a unit.
-ghost use Rattle.std.specs.Prelude.{◌≡◌, ◌<◌, ◌||◌, ◌==◌, length, map, filter, slice_index_or, false, [], if◌then◌else◌, IfOk};
+ghost use Rattle.std.specs.Prelude.{◌≡◌, ◌<◌, ◌||◌, ◌==◌, length, map, filter, slice_index_or, slice_get, false, [], if◌then◌else◌, IfOk};
+ghost use Rattle.std.specs.Option.{option_map_or};
 ghost use Rattle.wf_model.specs.Accepted.{IsAccepted};
 ghost use Rattle.wf_model.specs.Tree.{all_states, all_transitions, source};
 ghost use Rattle.wf_parts.specs.Components.{flat_of, component_of};
@@ -28,7 +29,8 @@ fn components_of(
     let mut components = List::new(alloc);
     for component in flat.components.as_slice() {
         if is_state_of(chart, unit, component.state) {
-            components.push(component.copy(alloc)?)?;
+            let component = component.copy(alloc)?;
+            components.push(component)?;
         }
     }
     Ok(components)
@@ -101,6 +103,16 @@ fn transitions_of(
     Ok(transitions)
 }
 
+// Whether a state is in at first.
+fn starts_in(flat: &Flat, s: usize) -> bool
+    ensures { result ≡ option_map_or (λ component. component.first) (slice_get flat.now.components s) false }
+{
+    match flat.components.get(s) {
+        Some(component) => component.first,
+        None => false,
+    }
+}
+
 // Whether the unit knows a state: it is its own, or it is watched.
 fn knows_state(watched: &[bool], unit: UnitId, s: usize, state: &State) -> bool
     ensures { result ≡ ((state.now.unit.0 == unit.0) || slice_index_or watched.now s false) }
@@ -124,14 +136,53 @@ fn states_of(
     let mut states = List::new(alloc);
     for (s, state) in chart.states.as_slice().iter().enumerate() {
         if knows_state(watched, unit, s, state) {
+            let first = starts_in(flat, s);
             states.push(KnownState {
                 id: StateId(s as u32),
                 unit: state.unit,
-                first: flat.components.as_slice()[s].first,
+                first,
             })?;
         }
     }
     Ok(states)
+}
+
+// What the unit is given of the chart, where it is known which transitions concern it.
+fn part_from(
+    alloc: Global,
+    chart: &Chart,
+    flat: &Flat,
+    concerned: &[bool],
+    unit: UnitId,
+) -> Result<Part, NoMemory>
+    requires accepted { IsAccepted chart.now }
+    requires flat { flat.now ≡ flat_of chart.now }
+    requires within { unit.0 < length chart.now.units }
+    requires concerned { concerned.now ≡ map (concerns chart.now unit.0) (all_transitions chart.now) }
+    ensures { IfOk result (λ part. part ≡ part_of chart.now unit.0) }
+{
+    let seen = seen_by(alloc, chart, concerned, unit)?;
+    let chart_name = chart.name.copy(alloc)?;
+    let name = chart.units.as_slice()[unit.0 as usize].copy(alloc)?;
+    let units = chart.units.len() as u32;
+    let components = components_of(alloc, chart, flat, unit)?;
+    let transitions = transitions_of(alloc, chart, flat, concerned, unit)?;
+    let states = states_of(alloc, chart, flat, seen.states.as_slice(), unit)?;
+    let vars = vars_of(alloc, chart, seen.vars, unit)?;
+    let events = events_of(alloc, chart, concerned, unit)?;
+    let acts = acts_of(alloc, chart, seen.acts.as_slice(), unit)?;
+    Ok(Part {
+        chart: chart_name,
+        name,
+        unit,
+        units,
+        components,
+        transitions,
+        states,
+        vars,
+        events,
+        acts,
+    })
 }
 
 /// What a unit is given of a chart, which was cut into these components, and nothing else of it. Grows with the chart, and with the
@@ -146,19 +197,6 @@ pub fn part_of(
     requires within { unit.0 < length checked.now.units }
     ensures { IfOk result (λ part. part ≡ part_of checked.now unit.0) }
 {
-    let chart = checked.chart();
     let concerned = concerned(alloc, checked, flat, unit)?;
-    let seen = seen_by(alloc, chart, concerned.as_slice(), unit)?;
-    Ok(Part {
-        chart: chart.name.copy(alloc)?,
-        name: chart.units.as_slice()[unit.0 as usize].copy(alloc)?,
-        unit,
-        units: chart.units.len() as u32,
-        components: components_of(alloc, chart, flat, unit)?,
-        transitions: transitions_of(alloc, chart, flat, concerned.as_slice(), unit)?,
-        states: states_of(alloc, chart, flat, seen.states.as_slice(), unit)?,
-        vars: vars_of(alloc, chart, seen.vars, unit)?,
-        events: events_of(alloc, chart, concerned.as_slice(), unit)?,
-        acts: acts_of(alloc, chart, seen.acts.as_slice(), unit)?,
-    })
+    part_from(alloc, checked.chart(), flat, concerned.as_slice(), unit)
 }

@@ -1,9 +1,9 @@
-use Rattle.std.proofs.Common.{◌≡◌, ◌∙◌, arith, get_or, ap}
+use Rattle.std.proofs.Common.{◌≡◌, ◌∙◌, arith, length, get_or, ap}
 use Rattle.wf_partition.proofs.Known.{own_read, blockers_len, blockers_at, transition_made}
 use Rattle.wf_partition.proofs.part.part_transition.Goals as goal
 
 pub bounds-as_slice-t : goal.bounds-as_slice-t
-bounds-as_slice-t c = omega (arith, blockers_len c.args.chart.now c.args.flat.now c.requires.flat, c.requires.within)
+bounds-as_slice-t c = omega (arith, blockers_len c.args.chart.now c.args.flat.now c.requires.flat, c.requires.within, ap length c.as_slice.ensures)
 
 pub returns : goal.returns
 returns c =

@@ -6,7 +6,7 @@ use Rattle.wf_parts.specs.Known.{concerns}
 use Rattle.wf_parts.specs.Parts.{part_transition}
 use Rattle.wf_partition.proofs.Numbered.{kept, left_out, all_kept}
 use Rattle.wf_partition.proofs.part.transitions_of.Goals as goal
-use Rattle.wf_partition.proofs.part.transitions_of.Goals.{then-is_set+in_ok-push, else-is_set}
+use Rattle.wf_partition.proofs.part.transitions_of.Goals.{then-is_set+in_ok-known+in_ok-push, else-is_set}
 
 pub loop-t-preserved : goal.loop-t-preserved
 loop-t-preserved c =
@@ -15,7 +15,7 @@ loop-t-preserved c =
     let there : c.transition-item.result ≡ get_or c.args.chart.now.transitions c.loop-t.t c.transition-item.result = search rules in
     let known = c.is_set.ensures ∙ row_at (concerns chart c.args.unit.0) (length chart.transitions) c.loop-t.t false c.args.concerned.now c.requires.concerned within in
     elim c.if-is_set.branch [
-      | then-is_set+in_ok-push w ↦ w.transitions-is
+      | then-is_set+in_ok-known+in_ok-push w ↦ w.transitions-is
           ∙ kept (part_transition chart c.args.unit.0) (concerns chart c.args.unit.0) chart.transitions c.loop-t.t c.transition-item.result _ c.loop-t.transitions w.push.new.self within there (sym known ∙ w.if-is_set.true)
           (w.in_ok-known.ensures) c.loop-t.invariant w.in_ok-push.ensures.ok
       | else-is_set w ↦ w.transitions-is

@@ -91,7 +91,7 @@ concerned_all chart flat u bits ok e is =
     ∙ row_agree (moved_before chart u (length chart.states)) (concerns chart u) (length chart.transitions) (λ t lt. sym (concerned_by_lists chart ok u t lt))
 
 -- tests of numbers below n that agree there
-any_below : (p q : ℕ → Bool) (a n : ℕ) → ((t : ℕ) → t < a + n → p t ≡ q t) → list_any p (range_with_len a n) ≡ list_any q (range_with_len a n)
+pub any_below : (p q : ℕ → Bool) (a n : ℕ) → ((t : ℕ) → t < a + n → p t ≡ q t) → list_any p (range_with_len a n) ≡ list_any q (range_with_len a n)
 any_below p q a zero h = refl
 any_below p q a (suc n) h = ap₂ (λ (x y : Bool). x || y) (h a (omega arith)) (any_below p q (a + 1) n (λ t lt. h t (omega arith)))
 

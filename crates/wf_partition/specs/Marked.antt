@@ -6,8 +6,9 @@ use Rattle.wf_model.specs.declared.chart.Transition.{Transition}
 use Rattle.wf_model.specs.declared.chart.Chart.{Chart}
 use Rattle.wf_model.specs.declared.part.Component.{Component}
 use Rattle.wf_model.specs.Tree.{all_states, all_transitions, all_acts, source}
-use Rattle.wf_parts.specs.Reads.{reads_state, reads_var, reads_act, guard_reads, values_read}
-use Rattle.wf_parts.specs.Known.{concerns, is_own, is_such, is_read, watches_state}
+use Rattle.wf_parts.specs.Reads.{reads_state, reads_var, reads_act, guard_reads, values_read, assigns, is_on}
+use Rattle.wf_parts.specs.Known.{concerns, is_own, is_such, is_read, watches_state, has_output}
+use Rattle.wf_semantics.specs.Admission.{is_act_at}
 use Rattle.wf_partition.specs.declared.reading.Reads.{Reads}
 
 -- the bits of the numbers from a on, with those set whose numbers pass
@@ -52,3 +53,15 @@ pub record AreSeen (chart : Chart) (u : ℕ) (seen : Reads) : Type 0 where
   pub states : seen.states ≡ map (watches_state chart u) (all_states chart)
   pub vars : seen.vars ≡ map (λ x. is_read chart u (reads_var x)) (range_with_len 0 (length chart.vars))
   pub acts : seen.acts ≡ map (λ a. is_read chart u (reads_act a)) (all_acts chart)
+
+-- transition t is u's own, and assigns variable x
+abbrev pub assigns_at : Chart → ℕ → ℕ → ℕ → Bool
+assigns_at chart u x t = is_own chart u t && is_such (assigns x) chart t
+
+-- activity a is u's own, and x is one of its outputs
+abbrev pub gives_at : Chart → ℕ → ℕ → ℕ → Bool
+gives_at chart u x a = is_act_at chart u a && has_output chart x a
+
+-- transition t is one of these, and n is its event
+abbrev pub triggers_at : Chart → List Bool → ℕ → ℕ → Bool
+triggers_at chart bits n t = slice_index_or bits t false && is_such (is_on n) chart t

@@ -1,6 +1,7 @@
 //! What each unit is given of a chart.
 #![tactic(auto)]
 
+mod knowledge;
 mod marks;
 mod part;
 mod reading;

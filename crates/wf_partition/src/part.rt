@@ -1,10 +1,189 @@
 //! The part of a unit.
-ghost use Rattle.std.specs.Prelude.{◌≡◌, ◌<◌, length, IfOk};
-ghost use Rattle.wf_parts.specs.Components.{flat_of};
-ghost use Rattle.wf_parts.specs.Parts.{part_of};
+ghost use Rattle.std.specs.Prelude.{◌≡◌, ◌<◌, ◌||◌, ◌==◌, length, map, filter, slice_index_or, slice_get, false, [], if◌then◌else◌, IfOk};
+ghost use Rattle.std.specs.Option.{option_map_or};
+ghost use Rattle.wf_model.specs.Accepted.{IsAccepted};
+ghost use Rattle.wf_model.specs.Tree.{all_states, all_transitions, source};
+ghost use Rattle.wf_parts.specs.Components.{flat_of, component_of};
+ghost use Rattle.wf_parts.specs.Known.{concerns, is_state_of, watches_state, knows_state};
+ghost use Rattle.wf_parts.specs.Parts.{numbered, part_transition, known_state, part_of};
 
+use crate::knowledge::{acts_of, events_of, vars_of};
+use crate::marks::{concerned, seen_by};
+use crate::reading::{is_set, is_state_of};
 use std::alloc::Global;
-use wf_model::{Checked, Flat, NoMemory, Part, UnitId};
+use wf_model::{
+    Action, Chart, Checked, Component, Duplicate, Flat, KnownState, List, NoMemory, Part,
+    PartTransition, State, StateId, TransId, Transition, UnitId,
+};
+
+// The components of the unit's states. Grows with the states, and with the transitions of these components.
+fn components_of(
+    alloc: Global,
+    chart: &Chart,
+    flat: &Flat,
+    unit: UnitId,
+) -> Result<List<Component>, NoMemory>
+    requires { flat.now ≡ flat_of chart.now }
+    ensures { IfOk result (λ components. components ≡ map (component_of chart.now) (filter (is_state_of chart.now unit.0) (all_states chart.now))) }
+{
+    let mut components = List::new(alloc);
+    for component in flat.components.as_slice() {
+        if is_state_of(chart, unit, component.state) {
+            let component = component.copy(alloc)?;
+            components.push(component)?;
+        }
+    }
+    Ok(components)
+}
+
+// The actions of a transition, where it is the unit's own.
+fn own_actions(
+    alloc: Global,
+    transition: &Transition,
+    own: bool,
+) -> Result<List<Action>, NoMemory>
+    ensures { IfOk result (λ actions. actions ≡ (if own then transition.now.actions else [])) }
+{
+    if own {
+        transition.actions.copy(alloc)
+    } else {
+        Ok(List::new(alloc))
+    }
+}
+
+// A transition that concerns the unit. Grows with what is copied.
+fn part_transition(
+    alloc: Global,
+    chart: &Chart,
+    flat: &Flat,
+    unit: UnitId,
+    t: TransId,
+    transition: &Transition,
+) -> Result<PartTransition, NoMemory>
+    requires flat { flat.now ≡ flat_of chart.now }
+    requires within { t.0 < length chart.now.transitions }
+    requires source { source chart.now t.0 ≡ transition.now.source.0 }
+    ensures { IfOk result (λ known. known ≡ part_transition chart.now unit.0 (t.0, transition.now)) }
+{
+    let own = is_state_of(chart, unit, transition.source);
+    let guard = transition.guard.copy(alloc)?;
+    let blockers = flat.blockers.as_slice()[t.0 as usize].copy(alloc)?;
+    let actions = own_actions(alloc, transition, own)?;
+    Ok(PartTransition {
+        id: t,
+        source: transition.source,
+        event: transition.event,
+        guard,
+        blockers,
+        own,
+        actions,
+    })
+}
+
+// The transitions that concern the unit, with what blocks each. Grows with the transitions, and with what is copied.
+fn transitions_of(
+    alloc: Global,
+    chart: &Chart,
+    flat: &Flat,
+    concerned: &[bool],
+    unit: UnitId,
+) -> Result<List<PartTransition>, NoMemory>
+    requires accepted { IsAccepted chart.now }
+    requires flat { flat.now ≡ flat_of chart.now }
+    requires concerned { concerned.now ≡ map (concerns chart.now unit.0) (all_transitions chart.now) }
+    ensures { IfOk result (λ transitions. transitions ≡ map (part_transition chart.now unit.0) (numbered (concerns chart.now unit.0) chart.now.transitions)) }
+{
+    let mut transitions = List::new(alloc);
+    for (t, transition) in chart.transitions.as_slice().iter().enumerate() {
+        if is_set(concerned, t) {
+            let known = part_transition(alloc, chart, flat, unit, TransId(t as u32), transition)?;
+            transitions.push(known)?;
+        }
+    }
+    Ok(transitions)
+}
+
+// Whether a state is in at first.
+fn starts_in(flat: &Flat, s: usize) -> bool
+    ensures { result ≡ option_map_or (λ component. component.first) (slice_get flat.now.components s) false }
+{
+    match flat.components.get(s) {
+        Some(component) => component.first,
+        None => false,
+    }
+}
+
+// Whether the unit knows a state: it is its own, or it is watched.
+fn knows_state(watched: &[bool], unit: UnitId, s: usize, state: &State) -> bool
+    ensures { result ≡ ((state.now.unit.0 == unit.0) || slice_index_or watched.now s false) }
+{
+    state.unit.0 == unit.0 || is_set(watched, s)
+}
+
+// The states that the unit knows. Grows with the states.
+fn states_of(
+    alloc: Global,
+    chart: &Chart,
+    flat: &Flat,
+    watched: &[bool],
+    unit: UnitId,
+) -> Result<List<KnownState>, NoMemory>
+    requires accepted { IsAccepted chart.now }
+    requires flat { flat.now ≡ flat_of chart.now }
+    requires watched { watched.now ≡ map (watches_state chart.now unit.0) (all_states chart.now) }
+    ensures { IfOk result (λ states. states ≡ map (known_state chart.now) (numbered (knows_state chart.now unit.0) chart.now.states)) }
+{
+    let mut states = List::new(alloc);
+    for (s, state) in chart.states.as_slice().iter().enumerate() {
+        if knows_state(watched, unit, s, state) {
+            let first = starts_in(flat, s);
+            states.push(KnownState {
+                id: StateId(s as u32),
+                unit: state.unit,
+                first,
+            })?;
+        }
+    }
+    Ok(states)
+}
+
+// What the unit is given of the chart, where it is known which transitions concern it.
+fn part_from(
+    alloc: Global,
+    chart: &Chart,
+    flat: &Flat,
+    concerned: &[bool],
+    unit: UnitId,
+) -> Result<Part, NoMemory>
+    requires accepted { IsAccepted chart.now }
+    requires flat { flat.now ≡ flat_of chart.now }
+    requires within { unit.0 < length chart.now.units }
+    requires concerned { concerned.now ≡ map (concerns chart.now unit.0) (all_transitions chart.now) }
+    ensures { IfOk result (λ part. part ≡ part_of chart.now unit.0) }
+{
+    let seen = seen_by(alloc, chart, concerned, unit)?;
+    let chart_name = chart.name.copy(alloc)?;
+    let name = chart.units.as_slice()[unit.0 as usize].copy(alloc)?;
+    let units = chart.units.len() as u32;
+    let components = components_of(alloc, chart, flat, unit)?;
+    let transitions = transitions_of(alloc, chart, flat, concerned, unit)?;
+    let states = states_of(alloc, chart, flat, seen.states.as_slice(), unit)?;
+    let vars = vars_of(alloc, chart, seen.vars, unit)?;
+    let events = events_of(alloc, chart, concerned, unit)?;
+    let acts = acts_of(alloc, chart, seen.acts.as_slice(), unit)?;
+    Ok(Part {
+        chart: chart_name,
+        name,
+        unit,
+        units,
+        components,
+        transitions,
+        states,
+        vars,
+        events,
+        acts,
+    })
+}
 
 /// What a unit is given of a chart, which was cut into these components, and nothing else of it. Grows with the chart, and with the
 /// transitions of the unit's components and of the guards that concern it.
@@ -18,5 +197,6 @@ pub fn part_of(
     requires within { unit.0 < length checked.now.units }
     ensures { IfOk result (λ part. part ≡ part_of checked.now unit.0) }
 {
-    Err(NoMemory)
+    let concerned = concerned(alloc, checked, flat, unit)?;
+    part_from(alloc, checked.chart(), flat, concerned.as_slice(), unit)
 }

@@ -1,0 +1,153 @@
+-- What a unit knows, item by item.
+use Rattle.std.proofs.Common.{◌≡◌, ℕ, ◌+◌, ◌<◌, ◌==◌, ◌||◌, ◌&&◌, Bool, true, false, cond, List, ◌∷◌, ◌++◌, [], length, map, filter, get_or, Option, Some, refl, sym, ◌∙◌, ap, ap₂, arith, append-nil, if◌then◌else◌}
+use Rattle.std.specs.List.{range_with_len, list_any, slice_get}
+use Rattle.std.specs.Option.{option_map_or, option_map}
+use Rattle.std.proofs.lemmas.Option.{slice_get-get_or}
+use Rattle.wf_model.specs.declared.ids.TransId.{TransId}
+use Rattle.wf_model.specs.declared.part.Component.{Component}
+use Rattle.wf_model.specs.declared.part.Flat.{Flat}
+use Rattle.wf_model.specs.declared.part.PartTransition.{PartTransition}
+use Rattle.wf_model.specs.declared.chart.State.{State}
+use Rattle.wf_model.specs.declared.chart.Event.{Event}
+use Rattle.wf_model.specs.declared.chart.Activity.{Activity}
+use Rattle.wf_model.specs.declared.chart.Transition.{Transition}
+use Rattle.wf_model.specs.declared.chart.Chart.{Chart}
+use Rattle.wf_model.specs.Tree.{all_states, all_transitions, all_acts, source}
+use Rattle.wf_semantics.specs.Admission.{is_event_at, is_act_at}
+use Rattle.wf_semantics.specs.Configuration.{is_in}
+use Rattle.wf_semantics.specs.Entry.{default_tree}
+use Rattle.wf_scopes.proofs.Rows.{row_at, row_get, row_len, row_agree}
+use Rattle.wf_scopes.proofs.Lines.{state_get, trans_get, source_read, filter_more_by}
+use Rattle.wf_parts.specs.Components.{flat_of, component_of, blocker_ids, trans_id}
+use Rattle.wf_parts.specs.Parts.{part_transition}
+use Rattle.wf_model.specs.declared.expr.Expr.{Expr}
+use Rattle.wf_model.specs.declared.chart.Action.{Action}
+use Rattle.wf_parts.specs.Reads.{assigns, is_on, reads_var, reads_act}
+use Rattle.wf_parts.specs.Known.{concerns, is_own, is_state_of, is_read, watches_state, knows_state, knows_var, knows_event, knows_act}
+use Rattle.wf_partition.specs.Marked.{marked, assigns_at, gives_at, triggers_at}
+use Rattle.wf_partition.proofs.Bits.{marked_row, or_assoc}
+use Rattle.wf_partition.proofs.Concerned.{any_below}
+
+-- a transition of a part, by what is copied
+abbrev pub the_transition : ℕ → Transition → Option Expr → List TransId → Bool → List Action → PartTransition
+the_transition t tr guard blockers own actions =
+    record { id = trans_id t; source = tr.source; event = tr.event; guard = guard; blockers = blockers; own = own; actions = actions }
+
+item_get : {A : Type 0} (xs : List A) (i : ℕ) (x : A) → i < length xs → x ≡ get_or xs i x → slice_get xs i ≡ Some x
+item_get xs i x lt is = slice_get-get_or xs i x lt ∙ ap Some (sym is)
+
+-- ---- components
+
+pub component_kept : (chart : Chart) (u i : ℕ) (component copy : Component) (counts : Bool) (old new : List Component) → component ≡ component_of chart i → counts ≡ is_state_of chart u component.state.0
+    → counts ≡ true → copy ≡ component → old ≡ map (component_of chart) (filter (is_state_of chart u) (range_with_len 0 i)) → new ≡ old ++ copy ∷ []
+    → new ≡ map (component_of chart) (filter (is_state_of chart u) (range_with_len 0 (i + 1)))
+component_kept chart u i component copy counts old new is test on same before now =
+    let it : is_state_of chart u i ≡ true = sym (test ∙ ap (λ (x : Component). is_state_of chart u x.state.0) is) ∙ on in
+    now ∙ ap (λ (l : List Component). l ++ copy ∷ []) before
+    ∙ ap (λ (x : Component). map (component_of chart) (filter (is_state_of chart u) (range_with_len 0 i)) ++ x ∷ []) (same ∙ is)
+    ∙ ap (λ (b : Bool). map (component_of chart) (filter (is_state_of chart u) (range_with_len 0 i)) ++ cond b (component_of chart i ∷ []) []) (sym it)
+    ∙ sym (filter_more_by (component_of chart) (is_state_of chart u) i)
+
+pub component_left : (chart : Chart) (u i : ℕ) (component : Component) (counts : Bool) (old : List Component) → component ≡ component_of chart i → counts ≡ is_state_of chart u component.state.0
+    → counts ≡ false → old ≡ map (component_of chart) (filter (is_state_of chart u) (range_with_len 0 i)) → old ≡ map (component_of chart) (filter (is_state_of chart u) (range_with_len 0 (i + 1)))
+component_left chart u i component counts old is test off before =
+    let it : is_state_of chart u i ≡ false = sym (test ∙ ap (λ (x : Component). is_state_of chart u x.state.0) is) ∙ off in
+    before ∙ sym (append-nil (map (component_of chart) (filter (is_state_of chart u) (range_with_len 0 i))))
+    ∙ ap (λ (b : Bool). map (component_of chart) (filter (is_state_of chart u) (range_with_len 0 i)) ++ cond b (component_of chart i ∷ []) []) (sym it)
+    ∙ sym (filter_more_by (component_of chart) (is_state_of chart u) i)
+
+-- ---- transitions
+
+pub own_read : (chart : Chart) (u t s : ℕ) → source chart t ≡ s → is_state_of chart u s ≡ is_own chart u t
+unfolding is_own
+own_read chart u t s e = ap (is_state_of chart u) (sym e)
+
+pub blockers_len : (chart : Chart) (flat : Flat) → flat ≡ flat_of chart → length flat.blockers ≡ length chart.transitions
+unfolding flat_of
+blockers_len chart flat e = row_len (blocker_ids chart) (length chart.transitions) flat.blockers (ap (λ (f : Flat). f.blockers) e)
+
+pub blockers_at : (chart : Chart) (flat : Flat) (t : ℕ) (blockers : List TransId) → flat ≡ flat_of chart → t < length chart.transitions → blockers ≡ get_or flat.blockers t blockers
+    → blockers ≡ blocker_ids chart t
+unfolding flat_of
+blockers_at chart flat t blockers e lt is = is ∙ row_at (blocker_ids chart) (length chart.transitions) t blockers flat.blockers (ap (λ (f : Flat). f.blockers) e) lt
+
+-- ---- states
+
+pub first_read : (chart : Chart) (flat : Flat) (s : ℕ) → flat ≡ flat_of chart → s < length chart.states
+    → option_map_or (λ (component : Component). component.first) (slice_get flat.components s) false ≡ is_in s (default_tree chart 0)
+unfolding flat_of
+first_read chart flat s e lt =
+    ap (λ (o : Option Component). option_map_or (λ (component : Component). component.first) o false)
+    (row_get (component_of chart) (length chart.states) s flat.components (ap (λ (f : Flat). f.components) e) lt)
+
+pub state_known : (chart : Chart) (u s : ℕ) (state : State) (watched : List Bool) → s < length chart.states → state ≡ get_or chart.states s state
+    → watched ≡ map (watches_state chart u) (all_states chart) → ((state.unit.0 == u) || get_or watched s false) ≡ knows_state chart u s
+state_known chart u s state watched lt is rows =
+    ap₂ (λ (a b : Bool). a || b) (sym (ap (λ (o : Option State). option_map_or (λ (x : State). x.unit.0 == u) o false) (state_get chart s state lt is)))
+    (row_at (watches_state chart u) (length chart.states) s false watched rows lt)
+
+-- ---- variables
+
+pub assigned_at : (chart : Chart) (u t : ℕ) (own : Bool) (tr : Transition) → t < length chart.transitions → tr ≡ get_or chart.transitions t tr → own ≡ is_state_of chart u tr.source.0
+    → (x : ℕ) → (own && assigns x tr) ≡ assigns_at chart u x t
+assigned_at chart u t own tr lt is o x =
+    ap₂ (λ (a b : Bool). a && b) (o ∙ own_read chart u t tr.source.0 (source_read chart t tr lt is))
+    (sym (ap (λ (y : Option Transition). option_map_or (assigns x) y false) (trans_get chart t tr lt is)))
+
+pub given_at : (chart : Chart) (u a : ℕ) (act : Activity) → a < length chart.acts → act ≡ get_or chart.acts a act
+    → (x : ℕ) → ((act.unit.0 == u) && list_any (λ v. v.0 == x) act.outputs) ≡ gives_at chart u x a
+given_at chart u a act lt is x =
+    let there = item_get chart.acts a act lt is in
+    ap₂ (λ (b c : Bool). b && c) (sym (ap (λ (y : Option Activity). option_map_or (λ (n : ℕ). n == u) (option_map (λ (z : Activity). z.unit.0) y) false) there))
+    (sym (ap (λ (y : Option Activity). option_map_or (λ (z : Activity). list_any (λ v. v.0 == x) z.outputs) y false) there))
+
+pub vars_known : (chart : Chart) (u : ℕ) (read written known : List Bool) → read ≡ map (λ x. is_read chart u (reads_var x)) (range_with_len 0 (length chart.vars))
+    → written ≡ marked (λ x. list_any (assigns_at chart u x) (all_transitions chart)) read → known ≡ marked (λ x. list_any (gives_at chart u x) (all_acts chart)) written
+    → (x : ℕ) → x < length chart.vars → get_or known x false ≡ knows_var chart u x
+unfolding knows_var
+vars_known chart u read written known r w k x lt =
+    row_at (λ y. (is_read chart u (reads_var y) || list_any (assigns_at chart u y) (all_transitions chart)) || list_any (gives_at chart u y) (all_acts chart)) (length chart.vars) x false known
+    (k ∙ marked_row (λ y. is_read chart u (reads_var y) || list_any (assigns_at chart u y) (all_transitions chart)) (λ y. list_any (gives_at chart u y) (all_acts chart)) (length chart.vars) written
+    (w ∙ marked_row (λ y. is_read chart u (reads_var y)) (λ y. list_any (assigns_at chart u y) (all_transitions chart)) (length chart.vars) read r)) lt
+    ∙ or_assoc (is_read chart u (reads_var x)) (list_any (assigns_at chart u x) (all_transitions chart)) (list_any (gives_at chart u x) (all_acts chart))
+
+-- ---- events
+
+pub trigger_at : (chart : Chart) (concerned : List Bool) (t : ℕ) (set : Bool) (tr : Transition) → t < length chart.transitions → tr ≡ get_or chart.transitions t tr → set ≡ get_or concerned t false
+    → (n : ℕ) → (set && is_on n tr) ≡ triggers_at chart concerned n t
+trigger_at chart concerned t set tr lt is e n =
+    ap₂ (λ (a b : Bool). a && b) e (sym (ap (λ (y : Option Transition). option_map_or (is_on n) y false) (trans_get chart t tr lt is)))
+
+pub event_known : (chart : Chart) (u n : ℕ) (event : Event) (concerned triggers : List Bool) → n < length chart.events → event ≡ get_or chart.events n event
+    → concerned ≡ map (concerns chart u) (all_transitions chart)
+    → triggers ≡ map (λ m. list_any (triggers_at chart concerned m) (all_transitions chart)) (range_with_len 0 (length chart.events))
+    → (option_map_or (λ at. at.0 == u) event.unit false || get_or triggers n false) ≡ knows_event chart u n
+unfolding knows_event
+event_known chart u n event concerned triggers lt is c rows =
+    ap₂ (λ (a b : Bool). a || b)
+    (sym (ap (λ (o : Option Event). option_map_or (λ (e : Event). option_map_or (λ at. at.0 == u) e.unit false) o false) (item_get chart.events n event lt is)))
+    (row_at (λ m. list_any (triggers_at chart concerned m) (all_transitions chart)) (length chart.events) n false triggers rows lt
+    ∙ any_below (triggers_at chart concerned n) _ 0 (length chart.transitions)
+    (λ t low. ap (λ (b : Bool). b && option_map_or (is_on n) (slice_get chart.transitions t) false) (row_at (concerns chart u) (length chart.transitions) t false concerned c (omega arith))))
+
+-- ---- activities
+
+pub act_known : (chart : Chart) (u a : ℕ) (act : Activity) (read : List Bool) → a < length chart.acts → act ≡ get_or chart.acts a act
+    → read ≡ map (λ b. is_read chart u (reads_act b)) (all_acts chart) → ((act.unit.0 == u) || get_or read a false) ≡ knows_act chart u a
+unfolding knows_act
+act_known chart u a act read lt is rows =
+    ap₂ (λ (b c : Bool). b || c)
+    (sym (ap (λ (y : Option Activity). option_map_or (λ (n : ℕ). n == u) (option_map (λ (z : Activity). z.unit.0) y) false) (item_get chart.acts a act lt is)))
+    (row_at (λ b. is_read chart u (reads_act b)) (length chart.acts) a false read rows lt)
+
+-- ---- the part
+
+pub transition_made : (chart : Chart) (u t : ℕ) (tr : Transition) (guard : Option Expr) (blockers : List TransId) (own : Bool) (actions : List Action) → guard ≡ tr.guard
+    → blockers ≡ blocker_ids chart t → own ≡ is_own chart u t → actions ≡ (if own then tr.actions else [])
+    → the_transition t tr guard blockers own actions ≡ part_transition chart u (t, tr)
+transition_made chart u t tr guard blockers own actions g b o a =
+    ap (λ x. the_transition t tr x blockers own actions) g ∙ ap (λ x. the_transition t tr tr.guard x own actions) b
+    ∙ ap (λ x. the_transition t tr tr.guard (blocker_ids chart t) own x) a ∙ ap (λ x. the_transition t tr tr.guard (blocker_ids chart t) x (if x then tr.actions else [])) o
+
+pub name_read : (chart : Chart) (u : ℕ) (name : List ℕ) → u < length chart.units → name ≡ get_or chart.units u name → name ≡ option_map_or (λ n. n) (slice_get chart.units u) []
+name_read chart u name lt is = sym (ap (λ (o : Option (List ℕ)). option_map_or (λ n. n) o []) (item_get chart.units u name lt is))

@@ -1,5 +1,5 @@
 -- The transitions that concern a unit, component by component.
-use Rattle.std.proofs.Common.{◌≡◌, ◌≢◌, ℕ, zero, suc, ◌+◌, ◌<◌, ◌≤◌, ◌==◌, ◌||◌, ◌&&◌, Bool, true, false, List, [], ◌∷◌, ◌⊎◌, inl, inr, length, map, filter, cond, get_or, refl, sym, ◌∙◌, ap, ap₂, arith, eqb-true, eq-eqb, true≢false}
+use Rattle.std.proofs.Common.{◌≡◌, ◌≢◌, ℕ, zero, suc, ◌+◌, ◌<◌, ◌≤◌, ◌==◌, ◌||◌, ◌&&◌, Bool, true, false, List, ◌∷◌, length, map, filter, cond, get_or, refl, sym, ◌∙◌, ap, ap₂, arith, eqb-true, eq-eqb, true≢false}
 use Rattle.std.specs.List.{list_any, range_with_len}
 use Rattle.wf_model.specs.declared.ids.TransId.{TransId}
 use Rattle.wf_model.specs.declared.part.Component.{Component}
@@ -14,7 +14,7 @@ use Rattle.wf_parts.proofs.Entered.{concerned_by_lists}
 use Rattle.wf_semantics.proofs.Bools.{any_map}
 use Rattle.wf_scopes.proofs.Rows.{row_at, row_len, row_agree}
 use Rattle.wf_partition.specs.Marked.{marked, moves, leads_from}
-use Rattle.wf_partition.proofs.Bits.{differ, or_false, marked_row, row_more_by}
+use Rattle.wf_partition.proofs.Bits.{differ, marked_row, row_more_by}
 
 -- whether t is one of the numbers that pass
 among_step : (t a : ℕ) (b : Bool) (rest : List ℕ) → list_any (λ x. x == t) (cond b (a ∷ rest) rest) ≡ ((b && (a == t)) || list_any (λ x. x == t) rest)
@@ -38,11 +38,14 @@ among_from p a (suc n) t ge lt = among_step t a (p a) (filter p (range_with_len 
     off : (b c : Bool) → ((b && false) || c) ≡ c
     off true c = refl
     off false c = refl
+
     on : (b : Bool) → ((b && true) || false) ≡ b
     on true = refl
     on false = refl
+
     above : (a == t) ≡ false → a + 1 ≤ t
     above f = let ne : a ≢ t = λ e. absurd (true≢false (sym (eq-eqb a t e) ∙ f)) in omega arith
+
     by_test : (b : Bool) → (a == t) ≡ b → (a + 1 ≤ t → list_any (λ x. x == t) (filter p (range_with_len (a + 1) n)) ≡ p t)
         → ((p a && (a == t)) || list_any (λ x. x == t) (filter p (range_with_len (a + 1) n))) ≡ p t
     by_test true e ih =
@@ -109,7 +112,7 @@ unfolding watches_state
 watched_row chart u concerned bits new c before now =
     now ∙ marked_row (λ s. is_read chart u (reads_state s)) (λ s. list_any (leads_from chart concerned s) (all_transitions chart)) (length chart.states) bits before
     ∙ row_agree _ (watches_state chart u) (length chart.states) (λ s lt.
-      or_swap (is_read chart u (reads_state s)) (list_any (leads_from chart concerned s) (all_transitions chart))
-      ∙ ap (λ (b : Bool). b || is_read chart u (reads_state s))
-      (any_below (leads_from chart concerned s) (λ t. concerns chart u t && (source chart t == s)) 0 (length chart.transitions)
-      (λ t low. ap (λ (b : Bool). b && (source chart t == s)) (row_at (concerns chart u) (length chart.transitions) t false concerned c (omega arith)))))
+    or_swap (is_read chart u (reads_state s)) (list_any (leads_from chart concerned s) (all_transitions chart))
+    ∙ ap (λ (b : Bool). b || is_read chart u (reads_state s))
+    (any_below (leads_from chart concerned s) (λ t. concerns chart u t && (source chart t == s)) 0 (length chart.transitions)
+    (λ t low. ap (λ (b : Bool). b && (source chart t == s)) (row_at (concerns chart u) (length chart.transitions) t false concerned c (omega arith)))))

@@ -1,5 +1,5 @@
 -- What a unit knows, item by item.
-use Rattle.std.proofs.Common.{◌≡◌, ℕ, ◌+◌, ◌<◌, ◌==◌, ◌||◌, ◌&&◌, Bool, true, false, cond, List, ◌∷◌, ◌++◌, [], length, map, filter, get_or, Option, Some, refl, sym, ◌∙◌, ap, ap₂, arith, append-nil, if◌then◌else◌}
+use Rattle.std.proofs.Common.{◌≡◌, ℕ, ◌+◌, ◌<◌, ◌==◌, ◌||◌, ◌&&◌, Bool, true, false, cond, List, ◌∷◌, ◌++◌, [], length, map, filter, get_or, Option, Some, sym, ◌∙◌, ap, ap₂, arith, append-nil, if◌then◌else◌}
 use Rattle.std.specs.List.{range_with_len, list_any, slice_get}
 use Rattle.std.specs.Option.{option_map_or, option_map}
 use Rattle.std.proofs.lemmas.Option.{slice_get-get_or}
@@ -13,10 +13,9 @@ use Rattle.wf_model.specs.declared.chart.Activity.{Activity}
 use Rattle.wf_model.specs.declared.chart.Transition.{Transition}
 use Rattle.wf_model.specs.declared.chart.Chart.{Chart}
 use Rattle.wf_model.specs.Tree.{all_states, all_transitions, all_acts, source}
-use Rattle.wf_semantics.specs.Admission.{is_event_at, is_act_at}
 use Rattle.wf_semantics.specs.Configuration.{is_in}
 use Rattle.wf_semantics.specs.Entry.{default_tree}
-use Rattle.wf_scopes.proofs.Rows.{row_at, row_get, row_len, row_agree}
+use Rattle.wf_scopes.proofs.Rows.{row_at, row_get, row_len}
 use Rattle.wf_scopes.proofs.Lines.{state_get, trans_get, source_read, filter_more_by}
 use Rattle.wf_parts.specs.Components.{flat_of, component_of, blocker_ids, trans_id}
 use Rattle.wf_parts.specs.Parts.{part_transition}

@@ -5,7 +5,7 @@ use Rattle.wf_model.specs.declared.expr.Expr.{Expr}
 use Rattle.wf_model.specs.declared.chart.Transition.{Transition}
 use Rattle.wf_model.specs.declared.chart.Chart.{Chart}
 use Rattle.wf_model.specs.declared.part.Component.{Component}
-use Rattle.wf_model.specs.Tree.{all_states, all_transitions, all_acts, source}
+use Rattle.wf_model.specs.Tree.{all_states, all_acts, source}
 use Rattle.wf_parts.specs.Reads.{reads_state, reads_var, reads_act, guard_reads, values_read, assigns, is_on}
 use Rattle.wf_parts.specs.Known.{concerns, is_own, is_such, is_read, watches_state, has_output}
 use Rattle.wf_semantics.specs.Admission.{is_act_at}

@@ -1,8 +1,7 @@
 //! Which transitions concern a unit, and what these read.
-ghost use Rattle.std.specs.Prelude.{◌≡◌, ◌==◌, ◌&&◌, ◌||◌, map, false, slice_index_or, IfOk};
+ghost use Rattle.std.specs.Prelude.{◌≡◌, ◌==◌, ◌&&◌, map, IfOk};
 ghost use Rattle.std.specs.List.{list_any};
-ghost use Rattle.wf_model.specs.Accepted.{IsAccepted};
-ghost use Rattle.wf_model.specs.Tree.{all_states, all_transitions, source};
+ghost use Rattle.wf_model.specs.Tree.{all_states, all_transitions};
 ghost use Rattle.wf_parts.specs.Components.{flat_of};
 ghost use Rattle.wf_parts.specs.Known.{concerns, watches_state};
 ghost use Rattle.wf_partition.specs.Marked.{marked, moves, leads_from, AreSeen};
@@ -30,7 +29,8 @@ fn mark_component(bits: &mut List<bool>, component: &Component, counts: bool)
     }
 }
 
-/// For each transition, whether it concerns the unit. Grows with the transitions of the unit's components.
+/// For each transition, whether it concerns the unit. Grows with the states and the transitions, and with the transitions of the unit's
+/// components.
 pub fn concerned(
     alloc: Global,
     checked: &Checked,
@@ -83,8 +83,8 @@ pub fn seen_by(
     Ok(reads)
 }
 
-/// For each state, whether the unit watches it. Grows with the transitions of the unit's components, and with the transitions and their
-/// expressions.
+/// For each state, whether the unit watches it. Grows with the states, variables and activities, with the transitions and their
+/// expressions, and with the transitions of the unit's components.
 pub fn watched(
     alloc: Global,
     checked: &Checked,

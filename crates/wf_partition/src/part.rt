@@ -37,11 +37,7 @@ fn components_of(
 }
 
 // The actions of a transition, where it is the unit's own.
-fn own_actions(
-    alloc: Global,
-    transition: &Transition,
-    own: bool,
-) -> Result<List<Action>, NoMemory>
+fn own_actions(alloc: Global, transition: &Transition, own: bool) -> Result<List<Action>, NoMemory>
     ensures { IfOk result (λ actions. actions ≡ (if own then transition.now.actions else [])) }
 {
     if own {

@@ -1,13 +1,13 @@
 //! What guards and assigned values read.
-ghost use Rattle.std.specs.Prelude.{◌≡◌, ◌<◌, ◌==◌, ◌&&◌, map, false, slice_index_or, IfOk};
+ghost use Rattle.std.specs.Prelude.{◌≡◌, ◌==◌, ◌&&◌, map, false, slice_index_or, IfOk};
 ghost use Rattle.std.specs.List.{list_any, range_with_len};
-ghost use Rattle.wf_model.specs.Tree.{all_transitions, source};
+ghost use Rattle.wf_model.specs.Tree.{all_transitions};
 ghost use Rattle.wf_parts.specs.Reads.{guard_reads, values_read, action_reads};
 ghost use Rattle.wf_parts.specs.Known.{concerns, is_state_of, is_read};
 ghost use Rattle.wf_partition.specs.Marked.{marked, Adds, AreReads, counted_reads};
 
 use std::alloc::Global;
-use wf_model::{Action, Chart, Checked, Expr, List, NoMemory, StateId, Transition, UnitId};
+use wf_model::{Action, Chart, Expr, List, NoMemory, StateId, Transition, UnitId};
 
 /// Bits for the states, variables and activities of a chart: which are read.
 #[derive(Debug, Drop)]

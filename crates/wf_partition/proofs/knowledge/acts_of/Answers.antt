@@ -1,4 +1,4 @@
-use Rattle.std.proofs.Common.{◌≡◌, ◌<◌, ◌∙◌, length, get_or, rules, sym, ap, arith, refl, false}
+use Rattle.std.proofs.Common.{◌≡◌, ◌<◌, ◌∙◌, length, get_or, rules, sym, ap, arith}
 use Rattle.wf_model.specs.declared.part.KnownActivity.{KnownActivity}
 use Rattle.wf_parts.specs.Known.{knows_act}
 use Rattle.wf_parts.specs.Parts.{known_activity}

@@ -1,4 +1,4 @@
-use Rattle.std.proofs.Common.{◌≡◌, ◌<◌, ◌∙◌, length, get_or, rules, sym, ap, arith, refl, false}
+use Rattle.std.proofs.Common.{◌≡◌, ◌<◌, ◌∙◌, length, get_or, rules, sym, arith, refl}
 use Rattle.wf_parts.specs.Known.{knows_event}
 use Rattle.wf_parts.specs.Parts.{known_event}
 use Rattle.wf_partition.proofs.Few.{few_events}

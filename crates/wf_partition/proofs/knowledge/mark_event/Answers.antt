@@ -1,4 +1,4 @@
-use Rattle.std.proofs.Common.{◌&&◌, Bool, ap, ap₂, false, ◌==◌}
+use Rattle.std.proofs.Common.{◌&&◌, Bool, ap₂, false, ◌==◌}
 use Rattle.std.specs.Option.{option_map_or}
 use Rattle.wf_parts.specs.Reads.{is_on}
 use Rattle.wf_partition.proofs.Bits.{marked_none, marked_skipped}

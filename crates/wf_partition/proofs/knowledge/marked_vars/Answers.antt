@@ -1,4 +1,4 @@
-use Rattle.std.proofs.Common.{◌≡◌, ◌<◌, ◌∙◌, length, get_or, rules, sym, ap, arith, refl, false}
+use Rattle.std.proofs.Common.{◌≡◌, ◌<◌, ◌∙◌, length, get_or, rules, sym, arith, refl, false}
 use Rattle.wf_parts.specs.Parts.{known_variable}
 use Rattle.wf_partition.proofs.Few.{few_vars}
 use Rattle.wf_partition.proofs.Numbered.{kept, left_out, all_kept}

@@ -1,5 +1,4 @@
-use Rattle.std.proofs.Common.{◌==◌, get_or, rules, false, refl}
-use Rattle.std.specs.List.{list_any}
+use Rattle.std.proofs.Common.{◌==◌, get_or, false, refl}
 use Rattle.wf_model.specs.declared.ids.TransId.{TransId}
 use Rattle.wf_partition.proofs.Bits.{marked_none, items_more}
 use Rattle.wf_partition.proofs.marks.mark_all.Goals as goal

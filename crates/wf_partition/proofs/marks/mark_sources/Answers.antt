@@ -1,4 +1,4 @@
-use Rattle.std.proofs.Common.{◌≡◌, ◌<◌, ◌&&◌, ◌==◌, Bool, ℕ, get_or, length, rules, false, refl, ap, ap₂, sym, ◌∙◌}
+use Rattle.std.proofs.Common.{◌≡◌, ◌<◌, ◌&&◌, ◌==◌, Bool, ℕ, get_or, length, rules, false, refl, ap₂, sym}
 use Rattle.wf_scopes.proofs.Lines.{source_read}
 use Rattle.wf_partition.specs.Marked.{leads_from}
 use Rattle.wf_partition.proofs.Bits.{marked_none, numbers_more}

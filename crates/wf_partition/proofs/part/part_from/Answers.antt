@@ -1,4 +1,4 @@
-use Rattle.std.proofs.Common.{◌≡◌, ◌∙◌, arith, get_or, ap, refl}
+use Rattle.std.proofs.Common.{◌∙◌, arith, get_or, ap, refl}
 use Rattle.wf_parts.specs.Parts.{part_of}
 use Rattle.wf_partition.proofs.Few.{few_units}
 use Rattle.wf_partition.proofs.Known.{name_read}

@@ -1,4 +1,4 @@
-use Rattle.std.proofs.Common.{◌≡◌, ◌∙◌, arith, length, get_or, ap}
+use Rattle.std.proofs.Common.{◌∙◌, arith, length, get_or, ap}
 use Rattle.wf_partition.proofs.Known.{own_read, blockers_len, blockers_at, transition_made}
 use Rattle.wf_partition.proofs.part.part_transition.Goals as goal
 

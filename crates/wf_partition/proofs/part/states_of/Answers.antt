@@ -1,4 +1,4 @@
-use Rattle.std.proofs.Common.{◌≡◌, ◌<◌, ◌∙◌, length, get_or, rules, sym, ap, arith, refl, false}
+use Rattle.std.proofs.Common.{◌≡◌, ◌<◌, ◌∙◌, length, get_or, rules, sym, ap, arith}
 use Rattle.wf_model.specs.declared.part.KnownState.{KnownState}
 use Rattle.wf_semantics.proofs.Facts.{chart_of}
 use Rattle.wf_parts.specs.Components.{state_id}

@@ -1,4 +1,4 @@
-use Rattle.std.proofs.Common.{◌≡◌, ◌<◌, ◌∙◌, length, get_or, rules, sym, ap, arith, refl, false}
+use Rattle.std.proofs.Common.{◌≡◌, ◌<◌, ◌∙◌, length, get_or, rules, sym, arith, false}
 use Rattle.wf_semantics.proofs.Facts.{chart_of}
 use Rattle.wf_scopes.proofs.Rows.{row_at}
 use Rattle.wf_scopes.proofs.Lines.{source_read}

@@ -37,5 +37,5 @@ returns-in-Neg t c = rw c.in-Neg.is (adds_Neg c.in-Neg.x c.args.reads.now c.add_
 pub returns-in-Bin : goal.returns-in-Bin
 returns-in-Bin t c =
     rw c.in-Bin.is (adds_Bin c.in-Bin.field-0 c.in-Bin.left c.in-Bin.right c.args.reads.now c.add_expr-in-Bin.new.reads c.add_expr-in-Bin-2.new.reads
-    (subst (λ e. Adds (λ r. r e) c.args.reads.now c.add_expr-in-Bin.new.reads) c.get-in-Bin.ensures c.add_expr-in-Bin.ensures) 
+    (subst (λ e. Adds (λ r. r e) c.args.reads.now c.add_expr-in-Bin.new.reads) c.get-in-Bin.ensures c.add_expr-in-Bin.ensures)
     (subst (λ e. Adds (λ r. r e) c.add_expr-in-Bin.new.reads c.add_expr-in-Bin-2.new.reads) c.get-in-Bin-2.ensures c.add_expr-in-Bin-2.ensures))

@@ -1,4 +1,4 @@
-use Rattle.std.proofs.Common.{◌≡◌, length, rules, refl, ap, take, take_all}
+use Rattle.std.proofs.Common.{refl, ap, take, take_all}
 use Rattle.std.specs.List.{list_any}
 use Rattle.wf_parts.specs.Reads.{action_reads}
 use Rattle.wf_partition.proofs.Adding.{adds_none, adds_more, adds_same}

@@ -1,7 +1,7 @@
-use Rattle.std.proofs.Common.{◌&&◌, refl, ap, ap₂, false, Bool}
+use Rattle.std.proofs.Common.{◌&&◌, ap, ap₂, false, Bool}
 use Rattle.std.specs.Option.{option_map_or}
 use Rattle.wf_parts.specs.Reads.{guard_reads}
-use Rattle.wf_partition.proofs.Adding.{adds_none, adds_same}
+use Rattle.wf_partition.proofs.Adding.{adds_none}
 use Rattle.wf_partition.proofs.reading.add_guard.Goals as goal
 
 pub returns-else-counts : goal.returns-else-counts

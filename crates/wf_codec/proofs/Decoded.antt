@@ -53,7 +53,7 @@ decoded_again u rest is =
     let len : length (spelling_of u ++ rest) - length rest ≡ length (spelling_of u) = omega (arith, length-append (spelling_of u) rest) in
     spelled_tagged u rest ∙ ap (told (length (spelling_of u ++ rest))) (update_again u rest is) ∙ ap (λ (n : ℕ). Ok (u, n)) len
 
--- two updates of which one text begins with both are one
+-- two updates with spellings at the front of the same bytes are one
 pub one_spelling : (a b : Update) (x y : List ℕ) → IsUpdate a → IsUpdate b → spelling_of a ++ x ≡ spelling_of b ++ y → (a ≡ b) × (x ≡ y)
 one_spelling a b x y is_a is_b e =
     let same = ok_is (a, x) (b, y) (sym (update_again a x is_a) ∙ ap (update_at MAX_UNITS None) e ∙ update_again b y is_b) in

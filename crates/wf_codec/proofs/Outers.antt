@@ -7,7 +7,7 @@ use Rattle.wf_model.specs.declared.outer.Output.{Output}
 use Rattle.wf_model.specs.declared.outer.Outer.{Outer}
 use Rattle.wf_model.specs.declared.outer.Outer.TheVariants.{Happen, Complete}
 use Rattle.wf_codec.specs.declared.fault.Misfit.{Misfit}
-use Rattle.wf_codec.specs.Spelling.{two, four, output_text, outer_text}
+use Rattle.wf_codec.specs.Spelling.{two, four, output_spelling, outer_spelling}
 use Rattle.wf_codec.specs.Ranges.{IsOuter, IsHeldOuter, IsHeldValue}
 use Rattle.wf_codec.specs.Fields.{happening_at, completion_at, outer_at}
 use Rattle.wf_codec.proofs.Readers.{Reads, Reads-then, Reads-as, Reads-of}
@@ -21,7 +21,7 @@ kind_of (Complete item act outputs) = 1
 
 abbrev behind_kind : Outer → List ℕ
 behind_kind (Happen e) = two e.0
-behind_kind (Complete item act outputs) = four item ++ (two act.0 ++ length outputs ∷ flat_map output_text outputs)
+behind_kind (Complete item act outputs) = four item ++ (two act.0 ++ length outputs ∷ flat_map output_spelling outputs)
 
 -- the number of the event or of the activity
 abbrev number_of : Outer → ℕ
@@ -87,7 +87,7 @@ Reads-completion limit small =
     (λ n o fit fits. fits.0.0))
     (λ act o fit fits. ap number_of fits.1.1))
     (λ item o fit fits. ap item_of fits.1.1.1))
-    (λ o fit. subst (λ (p : Outer). four (item_of p) ++ (two (number_of p) ++ length (outputs_of p) ∷ flat_map output_text (outputs_of p)) ≡ behind_kind p) (sym fit.1.1.1.1) refl)
+    (λ o fit. subst (λ (p : Outer). four (item_of p) ++ (two (number_of p) ++ length (outputs_of p) ∷ flat_map output_spelling (outputs_of p)) ≡ behind_kind p) (sym fit.1.1.1.1) refl)
     (completion_is limit) (completion_fits limit)
 
 Reads-kind : (limit kind : ℕ) → limit ≤ 2 ^ 16 → IsWithin 0 2 kind
@@ -96,18 +96,18 @@ Reads-kind limit zero small h = Reads-happening limit small
 Reads-kind limit (suc zero) small h = Reads-completion limit small
 Reads-kind limit (suc (suc n)) small h = absurd (omega arith)
 
-kind_text : (o : Outer) → one_byte (kind_of o) ++ behind_kind o ≡ outer_text o
-unfolding outer_text
-kind_text (Happen e) = refl
-kind_text (Complete item act outputs) = refl
+kind_spelling : (o : Outer) → one_byte (kind_of o) ++ behind_kind o ≡ outer_spelling o
+unfolding outer_spelling
+kind_spelling (Happen e) = refl
+kind_spelling (Complete item act outputs) = refl
 
 kind_within : (o : Outer) → IsWithin 0 2 (kind_of o)
 kind_within (Happen e) = (omega arith, omega arith)
 kind_within (Complete item act outputs) = (omega arith, omega arith)
 
-pub Reads-outer : (limit : ℕ) → limit ≤ 2 ^ 16 → (before : Option Outer) → Reads (outer_at limit before) outer_text (IsWhole limit)
+pub Reads-outer : (limit : ℕ) → limit ≤ 2 ^ 16 → (before : Option Outer) → Reads (outer_at limit before) outer_spelling (IsWhole limit)
 unfolding outer_at
 Reads-outer limit small before =
-    Reads-as outer_text (IsWhole limit)
+    Reads-as outer_spelling (IsWhole limit)
     (Reads-then kind_of (Reads-byte 0 2) (λ kind fit. Reads-kind limit kind small fit) (λ kind o fit fits. fits.0))
-    (λ o fit. kind_text o) (λ o fit. fit.1.1) (λ o fit. (kind_within o, (refl, fit)))
+    (λ o fit. kind_spelling o) (λ o fit. fit.1.1) (λ o fit. (kind_within o, (refl, fit)))

@@ -14,9 +14,9 @@ use Rattle.wf_codec.specs.declared.fault.Misfit.TheVariants.{Bad}
 use Rattle.wf_codec.specs.declared.fault.RecordFault.{RecordFault}
 use Rattle.wf_codec.specs.declared.record.JournalRecord.{JournalRecord}
 use Rattle.wf_codec.specs.declared.record.JournalRecord.TheVariants.{Head, Admit, Turn}
-use Rattle.wf_codec.specs.Spelling.{two, four, eight, outer_text, spelling_of}
+use Rattle.wf_codec.specs.Spelling.{two, four, eight, outer_spelling, spelling_of}
 use Rattle.wf_codec.specs.Ranges.{IsInRange, IsHeld, IsUpdate}
-use Rattle.wf_codec.specs.Records.{is_head_char, named, record_text, IsHeadName, IsRecord, head_char_at, head_name_at, head_at, admit_at, turn_at, record_at, whole, record_of}
+use Rattle.wf_codec.specs.Records.{is_head_char, named, record_spelling, IsHeadName, IsRecord, head_char_at, head_name_at, head_at, admit_at, turn_at, record_at, whole, record_of}
 use Rattle.wf_codec.specs.Answers.{AnswersRecord}
 use Rattle.wf_codec.proofs.Readers.{IsBytes, IsBytes-rest, ok_is, Takes, Reads, Reads-then, Reads-as, Reads-of}
 use Rattle.wf_codec.proofs.Numbers.{IsWithin, one_byte, Reads-byte, Reads-two, Reads-number, wide32, wide64}
@@ -57,7 +57,7 @@ tag_of (Turn step inputs sealed) = 84
 
 abbrev behind_tag : JournalRecord → List ℕ
 behind_tag (Head version chart unit) = version ∷ named chart ++ named unit
-behind_tag (Admit request outer) = eight request ++ outer_text outer
+behind_tag (Admit request outer) = eight request ++ outer_spelling outer
 behind_tag (Turn step inputs sealed) = four step ++ (length inputs ∷ flat_map spelling_of inputs ++ two sealed)
 
 abbrev IsTagged : ℕ → JournalRecord → Type 0
@@ -138,7 +138,7 @@ Reads-admit =
     (Reads-then request_of (Reads-number w64 (2 ^ 64) wide64 0 (2 ^ 64) (omega arith))
     (λ request request_fits. Reads-of outer_of (λ outer. Admit request outer) (Reads-outer (2 ^ 16) (omega arith) None) (λ outer fit. refl))
     (λ request r fit fits. ap request_of fits.1))
-    (λ r fit. subst (λ (s : JournalRecord). eight (request_of s) ++ outer_text (outer_of s) ≡ behind_tag s) (sym fit.1.1) refl)
+    (λ r fit. subst (λ (s : JournalRecord). eight (request_of s) ++ outer_spelling (outer_of s) ≡ behind_tag s) (sym fit.1.1) refl)
     admit_is admit_fits
 
 -- the parts of a turn
@@ -227,28 +227,28 @@ behind_tag_takes tag bytes r rest fits e =
       ]
     ]
 
-tagged_text : (r : JournalRecord) → tag_of r ∷ behind_tag r ≡ record_text r
-unfolding record_text
-tagged_text (Head version chart unit) = refl
-tagged_text (Admit request outer) = refl
-tagged_text (Turn step inputs sealed) = refl
+tagged_spelling : (r : JournalRecord) → tag_of r ∷ behind_tag r ≡ record_spelling r
+unfolding record_spelling
+tagged_spelling (Head version chart unit) = refl
+tagged_spelling (Admit request outer) = refl
+tagged_spelling (Turn step inputs sealed) = refl
 
-pub record_at_takes : (bytes : List ℕ) (r : JournalRecord) (rest : List ℕ) → IsBytes bytes → record_at bytes ≡ Ok (r, rest) → Takes bytes (record_text r) rest × IsRecord r
+pub record_at_takes : (bytes : List ℕ) (r : JournalRecord) (rest : List ℕ) → IsBytes bytes → record_at bytes ≡ Ok (r, rest) → Takes bytes (record_spelling r) rest × IsRecord r
 unfolding record_at
 record_at_takes [] r rest fits e = absurd cc
 record_at_takes (tag ∷ bytes) r rest fits e =
     let t = behind_tag_takes tag bytes r rest (IsBytes-rest tag bytes fits) e in
-    let parts : tag ∷ bytes ≡ record_text r ++ rest =
-    ap (λ (b : List ℕ). tag ∷ b) t.0.parts ∙ ap (λ (n : ℕ). n ∷ (behind_tag r ++ rest)) (sym t.1.0) ∙ ap (λ (b : List ℕ). b ++ rest) (tagged_text r) in
+    let parts : tag ∷ bytes ≡ record_spelling r ++ rest =
+    ap (λ (b : List ℕ). tag ∷ b) t.0.parts ∙ ap (λ (n : ℕ). n ∷ (behind_tag r ++ rest)) (sym t.1.0) ∙ ap (λ (b : List ℕ). b ++ rest) (tagged_spelling r) in
     (record { parts = parts; rest_fits = t.0.rest_fits }, t.1.1)
 
-pub record_at_again : (r : JournalRecord) (rest : List ℕ) → IsRecord r → record_at (record_text r ++ rest) ≡ Ok (r, rest)
-unfolding record_at record_text
+pub record_at_again : (r : JournalRecord) (rest : List ℕ) → IsRecord r → record_at (record_spelling r ++ rest) ≡ Ok (r, rest)
+unfolding record_at record_spelling
 record_at_again (Head version chart unit) rest is = Reads-head.again (Head version chart unit) rest (refl, is)
 record_at_again (Admit request outer) rest is = Reads-admit.again (Admit request outer) rest (refl, is)
 record_at_again (Turn step inputs sealed) rest is = Reads-turn.again (Turn step inputs sealed) rest (refl, is)
 
-pub Reads-record : Reads record_at record_text IsRecord
+pub Reads-record : Reads record_at record_spelling IsRecord
 Reads-record = record { takes = record_at_takes; again = record_at_again }
 
 -- ---- the record that is a whole body
@@ -260,29 +260,29 @@ whole_is (Ok (s, [])) r e =
 whole_is (Ok (s, b ∷ rest)) r e = absurd cc
 whole_is (Err misfit) r e = absurd cc
 
-pub record_takes : (body : List ℕ) (r : JournalRecord) → IsBytes body → record_of body ≡ Some r → IsRecord r × (body ≡ record_text r)
+pub record_takes : (body : List ℕ) (r : JournalRecord) → IsBytes body → record_of body ≡ Some r → IsRecord r × (body ≡ record_spelling r)
 unfolding record_of
 record_takes body r fits e =
     let t = record_at_takes body r [] fits (whole_is (record_at body) r e) in
-    (t.1, t.0.parts ∙ append-nil (record_text r))
+    (t.1, t.0.parts ∙ append-nil (record_spelling r))
 
-pub record_again : (r : JournalRecord) → IsRecord r → record_of (record_text r) ≡ Some r
+pub record_again : (r : JournalRecord) → IsRecord r → record_of (record_spelling r) ≡ Some r
 unfolding record_of
 record_again r is =
-    ap (λ (body : List ℕ). whole (record_at body)) (sym (append-nil (record_text r))) ∙ ap whole (record_at_again r [] is)
+    ap (λ (body : List ℕ). whole (record_at body)) (sym (append-nil (record_spelling r))) ∙ ap whole (record_at_again r [] is)
 
--- two records of which one text begins with both are one
-pub one_record : (a b : JournalRecord) (x y : List ℕ) → IsRecord a → IsRecord b → record_text a ++ x ≡ record_text b ++ y → (a ≡ b) × (x ≡ y)
+-- two records with bodies at the front of the same bytes are one
+pub one_record : (a b : JournalRecord) (x y : List ℕ) → IsRecord a → IsRecord b → record_spelling a ++ x ≡ record_spelling b ++ y → (a ≡ b) × (x ≡ y)
 one_record a b x y is_a is_b e =
     let same = ok_is (a, x) (b, y) (sym (record_at_again a x is_a) ∙ ap record_at e ∙ record_at_again b y is_b) in
     (ap (λ (p : JournalRecord × List ℕ). p.0) same, ap (λ (p : JournalRecord × List ℕ). p.1) same)
 
 -- ---- the clauses of a function that answers the record of a body
 
-pub is_found : (body : List ℕ) (result : Result JournalRecord RecordFault) → IsBytes body → AnswersRecord result (record_of body) → IfOk result (λ r. IsRecord r × (body ≡ record_text r))
+pub is_found : (body : List ℕ) (result : Result JournalRecord RecordFault) → IsBytes body → AnswersRecord result (record_of body) → IfOk result (λ r. IsRecord r × (body ≡ record_spelling r))
 is_found body (Ok r) fits answers = record_takes body r fits answers
 is_found body (Err e) fits answers = tt
 
 pub is_only : (body : List ℕ) (result : Result JournalRecord RecordFault) → AnswersRecord result (record_of body)
-    → (r : JournalRecord) → IsRecord r → body ≡ record_text r → AnswersRecord result (Some r)
+    → (r : JournalRecord) → IsRecord r → body ≡ record_spelling r → AnswersRecord result (Some r)
 is_only body result answers r is e = subst (λ (o : Option JournalRecord). AnswersRecord result o) (ap record_of e ∙ record_again r is) answers

@@ -14,7 +14,7 @@ use Rattle.wf_model.specs.declared.value.Val.{Val}
 use Rattle.wf_model.specs.declared.value.Val.TheVariants as v
 use Rattle.wf_codec.specs.declared.fault.Misfit.{Misfit}
 use Rattle.wf_codec.specs.declared.fault.Misfit.TheVariants.{Bad}
-use Rattle.wf_codec.specs.Spelling.{truth, eight, value_text}
+use Rattle.wf_codec.specs.Spelling.{truth, eight, value_spelling}
 use Rattle.wf_codec.specs.Ranges.{IsHeldValue}
 use Rattle.wf_codec.specs.Fields.{char_at, value_of_sort, value_at}
 use Rattle.wf_codec.proofs.Readers.{IsBytes, IsBytes-rest, ok_is, Takes, Reads, Reads-then, Reads-as, Reads-of}
@@ -156,20 +156,20 @@ Reads-sorted zero h = Reads-bool
 Reads-sorted (suc zero) h = Reads-int
 Reads-sorted (suc (suc n)) h = Reads-text n (omega (arith, h.1))
 
-sorted_text : (x : Val) → one_byte (sort_of x) ++ behind_sort x ≡ value_text x
-unfolding value_text
-sorted_text (v.Bool b) = refl
-sorted_text (v.Int z) = refl
-sorted_text (v.Text cs) = refl
+sorted_spelling : (x : Val) → one_byte (sort_of x) ++ behind_sort x ≡ value_spelling x
+unfolding value_spelling
+sorted_spelling (v.Bool b) = refl
+sorted_spelling (v.Int z) = refl
+sorted_spelling (v.Text cs) = refl
 
 sort_within : (x : Val) → IsWithin 0 3 (sort_of x)
 sort_within (v.Bool b) = (omega arith, omega arith)
 sort_within (v.Int z) = (omega arith, omega arith)
 sort_within (v.Text cs) = (omega arith, omega arith)
 
-pub Reads-value : Reads value_at value_text IsHeldValue
+pub Reads-value : Reads value_at value_spelling IsHeldValue
 unfolding value_at
 Reads-value =
-    Reads-as value_text IsHeldValue
+    Reads-as value_spelling IsHeldValue
     (Reads-then sort_of (Reads-byte 0 3) (λ sort fit. Reads-sorted sort fit) (λ sort x fit fits. fits.0))
-    (λ x fit. sorted_text x) (λ x fit. fit.1.1) (λ x fit. (sort_within x, (refl, fit)))
+    (λ x fit. sorted_spelling x) (λ x fit. fit.1.1) (λ x fit. (sort_within x, (refl, fit)))

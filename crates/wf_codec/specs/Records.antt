@@ -8,7 +8,7 @@ use Rattle.wf_codec.specs.declared.fault.Misfit.{Misfit}
 use Rattle.wf_codec.specs.declared.fault.Misfit.TheVariants.{Short, Bad}
 use Rattle.wf_codec.specs.declared.record.JournalRecord.{JournalRecord}
 use Rattle.wf_codec.specs.declared.record.JournalRecord.TheVariants.{Head, Admit, Turn}
-use Rattle.wf_codec.specs.Spelling.{two, four, eight, outer_text, spelling_of}
+use Rattle.wf_codec.specs.Spelling.{two, four, eight, outer_spelling, spelling_of}
 use Rattle.wf_codec.specs.Ranges.{Ascend, IsOuter, IsHeldOuter, IsInRange, IsHeld}
 use Rattle.wf_codec.specs.Reading.{◌>>=◌, byte_in, number_in, items_at}
 use Rattle.wf_codec.specs.Fields.{outer_at, update_at}
@@ -21,10 +21,10 @@ is_head_char c = is_word_char c || (c == 45)
 abbrev pub named : List ℕ → List ℕ
 named cs = length cs ∷ cs
 
-unfoldable pub record_text : JournalRecord → List ℕ
-record_text (Head version chart unit) = 72 ∷ version ∷ named chart ++ named unit
-record_text (Admit request outer) = 65 ∷ eight request ++ outer_text outer
-record_text (Turn step inputs sealed) = 84 ∷ four step ++ (length inputs ∷ flat_map spelling_of inputs ++ two sealed)
+unfoldable pub record_spelling : JournalRecord → List ℕ
+record_spelling (Head version chart unit) = 72 ∷ version ∷ named chart ++ named unit
+record_spelling (Admit request outer) = 65 ∷ eight request ++ outer_spelling outer
+record_spelling (Turn step inputs sealed) = 84 ∷ four step ++ (length inputs ∷ flat_map spelling_of inputs ++ two sealed)
 
 -- 1 to 32 characters that a head may have
 abbrev pub IsHeadName : List ℕ → Type 0

@@ -1,7 +1,7 @@
 //! Records of a journal as bytes.
 ghost use Rattle.std.specs.Prelude.{◌≡◌, Some, IfOk, IsErrOf};
 ghost use Rattle.wf_codec.specs.Reading.{Gives};
-ghost use Rattle.wf_codec.specs.Records.{record_text, head_at, admit_at, turn_at, record_at, record_of, IsRecord, IsRecordInRange};
+ghost use Rattle.wf_codec.specs.Records.{record_spelling, head_at, admit_at, turn_at, record_at, record_of, IsRecord, IsRecordInRange};
 ghost use Rattle.wf_codec.specs.Answers.{AnswersRecord};
 ghost use Rattle.wf_codec.specs.declared.record.JournalRecord.{JournalRecord as RecordValue};
 
@@ -49,7 +49,7 @@ pub enum JournalRecord {
 /// The one spelling of a record whose fields are in their ranges. Linear in its bytes.
 pub fn encode_record(alloc: Global, entry: &JournalRecord) -> Result<Bytes, NoMemory>
     requires { IsRecordInRange entry.now }
-    ensures { IfOk result (λ bytes. bytes ≡ record_text entry.now) }
+    ensures { IfOk result (λ bytes. bytes ≡ record_spelling entry.now) }
 {
     spell_whole(alloc, record_room(entry), entry)
 }
@@ -59,9 +59,9 @@ pub fn encode_record(alloc: Global, entry: &JournalRecord) -> Result<Bytes, NoMe
 /// `NotRecord` comes exactly where no record has it.
 pub fn decode_record(alloc: Global, body: &[u8]) -> Result<JournalRecord, RecordFault>
     // What is read has this body.
-    ensures found { IfOk result (λ r. IsRecord r × (body.now ≡ record_text r)) }
+    ensures found { IfOk result (λ r. IsRecord r × (body.now ≡ record_spelling r)) }
     // What has this body is read, unless memory runs out.
-    ensures only { (r : RecordValue) → IsRecord r → body.now ≡ record_text r → AnswersRecord result (Some r) }
+    ensures only { (r : RecordValue) → IsRecord r → body.now ≡ record_spelling r → AnswersRecord result (Some r) }
     // Which answer it is.
     ensures exact { AnswersRecord result (record_of body.now) }
 {

@@ -57,8 +57,8 @@ pub fn update_room(update: &Update) -> usize
     let changes = NUMBER * update.flips.len()
         + WRITE * update.writes.len()
         + NUMBER * update.raised.len();
-    let doings = START * update.starts.len() + NUMBER * update.fired.len();
-    18 + changes + doings + outers_room(update.outer.as_slice())
+    let rest = START * update.starts.len() + NUMBER * update.fired.len();
+    18 + changes + rest + outers_room(update.outer.as_slice())
 }
 
 /// Room for the updates of a turn.

@@ -2,9 +2,9 @@
 ghost use Rattle.std.specs.Prelude.{◌≡◌, ◌++◌, ◌∷◌, [], ◌<◌, ◌≤◌, ◌^◌, OnOk, length};
 ghost use Rattle.std.specs.List.{flat_map, AllByRecursion};
 ghost use Rattle.wf_model.specs.declared.limits.TheConstants.{MAX_NAME, MAX_UNITS};
-ghost use Rattle.wf_codec.specs.Spelling.{two, four, eight, outer_text, spelling_of};
+ghost use Rattle.wf_codec.specs.Spelling.{two, four, eight, outer_spelling, spelling_of};
 ghost use Rattle.wf_codec.specs.Ranges.{IsOuter, IsInRange};
-ghost use Rattle.wf_codec.specs.Records.{named, record_text, IsRecordInRange};
+ghost use Rattle.wf_codec.specs.Records.{named, record_spelling, IsRecordInRange};
 
 use crate::number::{spell_eight, spell_four, spell_two};
 use crate::record::{ADMIT, HEAD, JournalRecord, TURN};
@@ -36,7 +36,7 @@ fn spell_head(version: u8, chart: &Name, unit: &Name, bytes: &mut Vec<u8>) -> Re
 /// Adds an admission.
 fn spell_admission(request: u64, outer: &Outer, bytes: &mut Vec<u8>) -> Result<(), NoMemory>
     requires { IsOuter (2 ^ 16) outer.now }
-    ensures { OnOk result (bytes.new.items ≡ bytes.old.items ++ 65 ∷ eight request ++ outer_text outer.now) }
+    ensures { OnOk result (bytes.new.items ≡ bytes.old.items ++ 65 ∷ eight request ++ outer_spelling outer.now) }
 {
     bytes.push(ADMIT)?;
     spell_eight(request, bytes)?;
@@ -63,11 +63,11 @@ fn spell_turn(
 }
 
 impl Spell for JournalRecord {
-    ghost text = { record_text };
+    ghost spelling = { record_spelling };
 
     ghost fits = { IsRecordInRange };
 
-    #[tactic(auto, unfolding(crate::specs::Records::record_text), using(crate::proofs::Fits::inputs_few))]
+    #[tactic(auto, unfolding(crate::specs::Records::record_spelling), using(crate::proofs::Fits::inputs_few))]
     fn spell(&self, bytes: &mut Vec<u8>) -> Result<(), NoMemory> {
         match self {
             JournalRecord::Head {

@@ -10,7 +10,8 @@ use Rattle.wf_model.specs.declared.outer.Output.{Output}
 use Rattle.wf_model.specs.declared.update.Write.{Write}
 use Rattle.wf_model.specs.declared.update.StartAt.{StartAt}
 use Rattle.wf_codec.specs.Spelling.{state_spelling, event_spelling, trans_spelling, write_spelling, start_spelling, output_spelling}
-use Rattle.wf_codec.specs.Ranges.{IsStart, IsEarlier, IsHeldValue}
+use Rattle.wf_codec.specs.Ranges.{chart_numbers, IsStart, IsEarlier, IsHeldValue}
+use Rattle.wf_codec.specs.declared.field.Numbers.{Numbers}
 use Rattle.wf_codec.specs.Reading.{least_after}
 use Rattle.wf_codec.specs.Fields.{state_at, event_at, trans_at, write_at, start_at, least_trans, least_place, output_at}
 use Rattle.wf_codec.proofs.Readers.{Reads, Reads-then, Reads-as, Reads-of}
@@ -47,7 +48,7 @@ IsNextState before s = IsNext (λ x. x.0) MAX_STATES before s
 pub states_split : IsSplit IsNextState (λ s. s.0 < MAX_STATES) (λ x y. x.0 < y.0)
 states_split = ascends (λ (s : StateId). s.0) MAX_STATES
 
-pub Reads-state : (before : Option StateId) → Reads (state_at MAX_STATES before) state_spelling (IsNextState before)
+pub Reads-state : (before : Option StateId) → Reads (state_at before) state_spelling (IsNextState before)
 unfolding state_at
 Reads-state before =
     Reads-as state_spelling (IsNextState before)
@@ -60,7 +61,7 @@ IsNextEvent before e = IsNext (λ x. x.0) MAX_EVENTS before e
 pub events_split : IsSplit IsNextEvent (λ e. e.0 < MAX_EVENTS) (λ x y. x.0 < y.0)
 events_split = ascends (λ (e : EventId). e.0) MAX_EVENTS
 
-pub Reads-event : (before : Option EventId) → Reads (event_at MAX_EVENTS before) event_spelling (IsNextEvent before)
+pub Reads-event : (before : Option EventId) → Reads (event_at chart_numbers before) event_spelling (IsNextEvent before)
 unfolding event_at
 Reads-event before =
     Reads-as event_spelling (IsNextEvent before)
@@ -73,7 +74,7 @@ IsNextTrans before t = IsNext (λ x. x.0) MAX_TRANSITIONS before t
 pub transitions_split : IsSplit IsNextTrans (λ t. t.0 < MAX_TRANSITIONS) (λ x y. x.0 < y.0)
 transitions_split = ascends (λ (t : TransId). t.0) MAX_TRANSITIONS
 
-pub Reads-trans : (before : Option TransId) → Reads (trans_at MAX_TRANSITIONS before) trans_spelling (IsNextTrans before)
+pub Reads-trans : (before : Option TransId) → Reads (trans_at before) trans_spelling (IsNextTrans before)
 unfolding trans_at
 Reads-trans before =
     Reads-as trans_spelling (IsNextTrans before)
@@ -91,7 +92,7 @@ IsNextWrite before w = IsNext (λ x. x.var.0) MAX_VARS before w × IsHeldWrite w
 pub writes_split : IsSplit IsNextWrite (λ w. (w.var.0 < MAX_VARS) × IsHeldWrite w) (λ w x. w.var.0 < x.var.0)
 writes_split = ascends_held (λ w. w.var.0) MAX_VARS IsHeldWrite
 
-pub Reads-write : (before : Option Write) → Reads (write_at MAX_VARS before) write_spelling (IsNextWrite before)
+pub Reads-write : (before : Option Write) → Reads (write_at chart_numbers before) write_spelling (IsNextWrite before)
 unfolding write_at
 Reads-write before =
     Reads-as write_spelling (IsNextWrite before)
@@ -107,7 +108,7 @@ Reads-write before =
 abbrev pub IsNextStart : Option StartAt → StartAt → Type 0
 IsNextStart before s = (s.act.0 < MAX_ACTS) × (IsWithin (least_trans before) MAX_TRANSITIONS s.trans.0 × IsWithin (least_place before s.trans.0) MAX_ACTIONS s.place)
 
-pub Reads-start : (before : Option StartAt) → Reads (start_at MAX_ACTS before) start_spelling (IsNextStart before)
+pub Reads-start : (before : Option StartAt) → Reads (start_at chart_numbers before) start_spelling (IsNextStart before)
 unfolding start_at
 Reads-start before =
     Reads-as start_spelling (IsNextStart before)
@@ -143,14 +144,14 @@ starts_split = record {
 
 -- ---- outputs
 
-abbrev pub IsOutput : ℕ → Output → Type 0
-IsOutput limit o = (o.var.0 < limit) × IsHeldValue o.val
+abbrev pub IsOutput : Numbers → Output → Type 0
+IsOutput numbers o = (o.var.0 < numbers.vars) × IsHeldValue o.val
 
-pub Reads-output : (limit : ℕ) → limit ≤ 2 ^ 16 → (before : Option Output) → Reads (output_at limit before) output_spelling (IsOutput limit)
+pub Reads-output : (numbers : Numbers) → numbers.vars ≤ 2 ^ 16 → (before : Option Output) → Reads (output_at numbers before) output_spelling (IsOutput numbers)
 unfolding output_at
-Reads-output limit small before =
-    Reads-as output_spelling (IsOutput limit)
-    (Reads-then (λ (o : Output). o.var.0) (Reads-two 0 limit small)
+Reads-output numbers small before =
+    Reads-as output_spelling (IsOutput numbers)
+    (Reads-then (λ (o : Output). o.var.0) (Reads-two 0 numbers.vars small)
     (λ var var_fits. Reads-of (λ (o : Output). o.val) (λ val. record { var = record { 0 = var }; val = val }) Reads-value (λ val fit. refl))
     (λ var o fit fits. ap (λ (x : Output). x.var.0) fits.1))
     (λ o fit. refl) (λ o fit. (fit.0.1, fit.1.0)) (λ o fit. ((omega arith, fit.0), (fit.1, refl)))

@@ -1,11 +1,13 @@
 //! Laws of the spellings of updates and of records. Each public function is a law and has nothing to do.
-ghost use Rattle.std.specs.Prelude.{◌≡◌, ◌++◌, ℕ, List, Ok, Some, length};
+ghost use Rattle.std.specs.Prelude.{◌≡◌, ◌≤◌, ◌++◌, ℕ, List, Ok, Some, length};
 ghost use Rattle.wf_codec.specs.Spelling.{spelling_of};
 ghost use Rattle.wf_codec.specs.Ranges.{IsUpdate};
 ghost use Rattle.wf_codec.specs.Fields.{decoded};
 ghost use Rattle.wf_codec.specs.Records.{record_spelling, record_at, record_of, IsRecord};
 ghost use Rattle.wf_codec.specs.declared.record.JournalRecord.{JournalRecord as RecordValue};
 ghost use Rattle.wf_model.specs.declared.update.Update.{Update as UpdateValue};
+
+use crate::room::MAX_SPELLING;
 
 /// Each update has a spelling of its own: where the same bytes begin with the spellings of two updates, the two are one, and so is what
 /// follows. So no spelling begins another's.
@@ -16,6 +18,11 @@ pub fn one_spelling()
 /// What is spelled is decoded, whatever follows it, and the answer's length is that of the spelling.
 pub fn spelled_is_decoded()
     ensures { (update : UpdateValue) (rest : List ℕ) → IsUpdate update → decoded (spelling_of update ++ rest) ≡ Ok (update, length (spelling_of update)) }
+{}
+
+/// No spelling of an update is longer than `MAX_SPELLING` bytes.
+pub fn spelling_is_short()
+    ensures { (update : UpdateValue) → IsUpdate update → length (spelling_of update) ≤ MAX_SPELLING }
 {}
 
 /// Each record has a body of its own, which begins no other's: where the same bytes begin with the bodies of two records, the two are

@@ -4,11 +4,13 @@ ghost use Rattle.std.specs.List.{flat_map, AllByRecursion};
 ghost use Rattle.wf_model.specs.declared.limits.TheConstants.{MAX_EVENTS, MAX_STATES, MAX_TRANSITIONS};
 ghost use Rattle.wf_codec.specs.Spelling.{two, four, state_spelling, event_spelling, trans_spelling, value_spelling, write_spelling, start_spelling, output_spelling, outer_spelling, spelling_of};
 ghost use Rattle.wf_codec.specs.Parts.{changes_spelling, rest_spelling};
-ghost use Rattle.wf_codec.specs.Ranges.{IsWrite, IsStart, IsOuter, IsInRange};
+ghost use Rattle.wf_codec.specs.Ranges.{any_numbers, IsWrite, IsStart, IsOuter, IsInRange};
 
 use crate::number::{spell_four, spell_two};
+use crate::outer::{COMPLETE, HAPPEN};
 use crate::spelling::{Spell, spell_items, spell_list};
 use crate::update::TAG;
+use crate::value::{BOOL, INT, TEXT};
 use wf_model::{
     ActId, EventId, NoMemory, Outer, Output, StartAt, StateId, TransId, Update, Val, Write,
 };
@@ -51,13 +53,13 @@ impl Spell for Val {
     #[tactic(auto, unfolding(crate::specs::Spelling::value_spelling))]
     fn spell(&self, bytes: &mut Vec<u8>) -> Result<(), NoMemory> {
         match self {
-            Val::Bool(truth) => bytes.extend_from_slice(&[0, u8::from(*truth)])?,
+            Val::Bool(truth) => bytes.extend_from_slice(&[BOOL, u8::from(*truth)])?,
             Val::Int(number) => {
-                bytes.push(1)?;
+                bytes.push(INT)?;
                 bytes.extend_from_slice(&number.to_be_bytes())?;
             }
             Val::Text(text) => {
-                bytes.extend_from_slice(&[2, text.len() as u8])?;
+                bytes.extend_from_slice(&[TEXT, text.len() as u8])?;
                 bytes.extend_from_slice(text.as_slice())?;
             }
         }
@@ -104,9 +106,9 @@ impl Spell for Output {
 /// Adds an event that happens.
 fn spell_happening(event: EventId, bytes: &mut Vec<u8>) -> Result<(), NoMemory>
     requires { event.0 < 2 ^ 16 }
-    ensures { OnOk result (bytes.new.items ≡ bytes.old.items ++ 0 ∷ two event.0) }
+    ensures { OnOk result (bytes.new.items ≡ bytes.old.items ++ HAPPEN ∷ two event.0) }
 {
-    bytes.push(0)?;
+    bytes.push(HAPPEN)?;
     spell_two(event.0, bytes)
 }
 
@@ -120,9 +122,9 @@ fn spell_completion(
     requires act { act.0 < 2 ^ 16 }
     requires count { length outputs.now < 256 }
     requires each { AllByRecursion (λ o. o.var.0 < 2 ^ 16) outputs.now }
-    ensures { OnOk result (bytes.new.items ≡ bytes.old.items ++ 1 ∷ four item ++ (two act.0 ++ length outputs.now ∷ flat_map output_spelling outputs.now)) }
+    ensures { OnOk result (bytes.new.items ≡ bytes.old.items ++ COMPLETE ∷ four item ++ (two act.0 ++ length outputs.now ∷ flat_map output_spelling outputs.now)) }
 {
-    bytes.push(1)?;
+    bytes.push(COMPLETE)?;
     spell_four(item, bytes)?;
     spell_two(act.0, bytes)?;
     bytes.push(outputs.len() as u8)?;
@@ -132,7 +134,7 @@ fn spell_completion(
 impl Spell for Outer {
     ghost spelling = { outer_spelling };
 
-    ghost fits = { IsOuter (2 ^ 16) };
+    ghost fits = { IsOuter any_numbers };
 
     #[tactic(auto, unfolding(crate::specs::Spelling::outer_spelling))]
     fn spell(&self, bytes: &mut Vec<u8>) -> Result<(), NoMemory> {

@@ -1,5 +1,5 @@
 -- Reading the fields of an update.
-use Rattle.std.specs.Prelude.{ℕ, zero, suc, ◌+◌, ◌-◌, ◌^◌, ◌==◌, List, [], ◌∷◌, length, Option, Some, None, Result, Ok, Err, if◌then◌else◌}
+use Rattle.std.specs.Prelude.{ℕ, suc, ◌+◌, ◌-◌, ◌^◌, ◌==◌, List, [], ◌∷◌, length, Option, Some, None, Result, Ok, Err, if◌then◌else◌}
 use Rattle.std.specs.Int.{w16, w32, w64, cast_signed}
 use Rattle.wf_model.specs.declared.limits.TheConstants.{MAX_UNITS, MAX_STATES, MAX_TRANSITIONS, MAX_ACTIONS, MAX_OUTPUTS, MAX_TEXT, MAX_STEPS, MAX_FIRED, MAX_STARTS, MAX_SEALED}
 use Rattle.wf_model.specs.Txt.{is_text_char}

@@ -1,4 +1,4 @@
-use Rattle.std.proofs.Common.{◌≡◌, ◌-◌, None, length}
+use Rattle.std.proofs.Common.{◌≡◌, ◌-◌, length}
 use Rattle.wf_codec.specs.Reading.{byte_that, bytes_that}
 use Rattle.wf_model.specs.Txt.{is_text_char}
 use Rattle.wf_codec.proofs.ReadLoop.{from_front}

@@ -2,14 +2,14 @@
 use Rattle.std.proofs.Common.{◌≡◌, ℕ, suc, ◌+◌, ◌-◌, Bool, true, false, cond, eqb, List, [], ◌∷◌, ◌++◌, length, None, Result, Ok, Err, refl, sym, ap, subst, ◌∙◌, arith}
 use Rattle.std.specs.Prelude.{IfOk}
 use Rattle.std.proofs.lemmas.List.{length-append}
-use Rattle.wf_model.specs.declared.limits.TheConstants.{MAX_UNITS}
 use Rattle.wf_model.specs.declared.update.Update.{Update}
 use Rattle.wf_codec.specs.declared.fault.Misfit.{Misfit}
 use Rattle.wf_codec.specs.declared.fault.Misfit.TheVariants.{Short, Bad}
 use Rattle.wf_codec.specs.declared.fault.CodecFault.{CodecFault}
 use Rattle.wf_codec.specs.declared.fault.CodecFault.TheVariants as codec
+use Rattle.wf_codec.specs.declared.update.TheConstants.{TAG}
 use Rattle.wf_codec.specs.Spelling.{spelling_of}
-use Rattle.wf_codec.specs.Ranges.{IsUpdate}
+use Rattle.wf_codec.specs.Ranges.{chart_numbers, IsUpdate}
 use Rattle.wf_codec.specs.Fields.{update_at, told, decoded}
 use Rattle.wf_codec.specs.Answers.{Answers}
 use Rattle.wf_codec.proofs.Readers.{IsBytes, ok_is}
@@ -34,17 +34,17 @@ pub decoded_takes : (bytes : List ℕ) (x : Update × ℕ) → IsBytes bytes →
 unfolding decoded
 decoded_takes [] x fits e = absurd cc
 decoded_takes (tag ∷ bytes) x fits e =
-    let t = told_ok (suc (length bytes)) (update_at MAX_UNITS None (tag ∷ bytes)) x (tag_ok (eqb tag 85) (told (suc (length bytes)) (update_at MAX_UNITS None (tag ∷ bytes))) x e) in
+    let t = told_ok (suc (length bytes)) (update_at chart_numbers None (tag ∷ bytes)) x (tag_ok (eqb tag TAG) (told (suc (length bytes)) (update_at chart_numbers None (tag ∷ bytes))) x e) in
     let u = update_takes (tag ∷ bytes) x.0 t.0 fits t.1 in
     let len : suc (length bytes) ≡ length (spelling_of x.0) + length t.0 = ap length u.0.parts ∙ length-append (spelling_of x.0) t.0 in
     (u.1, omega (arith, len, t.2), t.0, u.0.parts)
 
 -- bytes with an update's tag
-tagged : (bytes : List ℕ) → decoded (85 ∷ bytes) ≡ told (suc (length bytes)) (update_at MAX_UNITS None (85 ∷ bytes))
+tagged : (bytes : List ℕ) → decoded (TAG ∷ bytes) ≡ told (suc (length bytes)) (update_at chart_numbers None (TAG ∷ bytes))
 unfolding decoded
 tagged bytes = refl
 
-spelled_tagged : (u : Update) (rest : List ℕ) → decoded (spelling_of u ++ rest) ≡ told (length (spelling_of u ++ rest)) (update_at MAX_UNITS None (spelling_of u ++ rest))
+spelled_tagged : (u : Update) (rest : List ℕ) → decoded (spelling_of u ++ rest) ≡ told (length (spelling_of u ++ rest)) (update_at chart_numbers None (spelling_of u ++ rest))
 unfolding spelling_of
 spelled_tagged u rest = tagged _
 
@@ -53,10 +53,10 @@ decoded_again u rest is =
     let len : length (spelling_of u ++ rest) - length rest ≡ length (spelling_of u) = omega (arith, length-append (spelling_of u) rest) in
     spelled_tagged u rest ∙ ap (told (length (spelling_of u ++ rest))) (update_again u rest is) ∙ ap (λ (n : ℕ). Ok (u, n)) len
 
--- two updates of which one text begins with both are one
+-- two updates with spellings at the front of the same bytes are one
 pub one_spelling : (a b : Update) (x y : List ℕ) → IsUpdate a → IsUpdate b → spelling_of a ++ x ≡ spelling_of b ++ y → (a ≡ b) × (x ≡ y)
 one_spelling a b x y is_a is_b e =
-    let same = ok_is (a, x) (b, y) (sym (update_again a x is_a) ∙ ap (update_at MAX_UNITS None) e ∙ update_again b y is_b) in
+    let same = ok_is (a, x) (b, y) (sym (update_again a x is_a) ∙ ap (update_at chart_numbers None) e ∙ update_again b y is_b) in
     (ap (λ (p : Update × List ℕ). p.0) same, ap (λ (p : Update × List ℕ). p.1) same)
 
 -- ---- the clauses of a function that answers what decoding answers

@@ -7,7 +7,7 @@ use Rattle.wf_model.specs.declared.outer.Outer.{Outer}
 use Rattle.wf_model.specs.declared.outer.Outer.TheVariants.{Happen, Complete}
 use Rattle.wf_model.specs.declared.update.Write.{Write}
 use Rattle.wf_model.specs.declared.update.Update.{Update}
-use Rattle.wf_codec.specs.Ranges.{Ascend, IsWrite, IsOuter, IsInRange}
+use Rattle.wf_codec.specs.Ranges.{chart_numbers, any_numbers, Ascend, IsWrite, IsOuter, IsInRange}
 
 -- the number of the first, and how many there are, stay within the limit
 first_leaves_room : {A : Type 0} (number : A → ℕ) (limit : ℕ) (x : A) (xs : List A) → AllByRecursion (λ y. number y < limit) (x ∷ xs) → Ascend number (x ∷ xs) → number x + length (x ∷ xs) ≤ limit
@@ -33,20 +33,20 @@ writes_few u ranged = ascending_few (λ w. w.var.0) MAX_VARS u.writes (variables
 pub raised_few : (u : Update) → IsInRange u → length u.raised ≤ MAX_EVENTS
 raised_few u ranged = ascending_few (λ e. e.0) MAX_EVENTS u.raised ranged.raised ranged.raised_ascend
 
-outputs_fit : (outputs : List Output) → AllByRecursion (λ o. o.var.0 < MAX_EVENTS) outputs → AllByRecursion (λ o. o.var.0 < 2 ^ 16) outputs
+outputs_fit : (outputs : List Output) → AllByRecursion (λ o. o.var.0 < MAX_VARS) outputs → AllByRecursion (λ o. o.var.0 < 2 ^ 16) outputs
 outputs_fit [] below = tt
 outputs_fit (o ∷ outputs) below = (omega (arith, below.0), outputs_fit outputs below.1)
 
-outer_fits : (outer : Outer) → IsOuter MAX_EVENTS outer → IsOuter (2 ^ 16) outer
+outer_fits : (outer : Outer) → IsOuter chart_numbers outer → IsOuter any_numbers outer
 outer_fits (Happen event) ranged = omega (arith, ranged)
 outer_fits (Complete item act outputs) ranged = (ranged.0, omega (arith, ranged.1), ranged.2, outputs_fit outputs ranged.3)
 
-all_outers_fit : (outers : List Outer) → AllByRecursion (IsOuter MAX_EVENTS) outers → AllByRecursion (IsOuter (2 ^ 16)) outers
+all_outers_fit : (outers : List Outer) → AllByRecursion (IsOuter chart_numbers) outers → AllByRecursion (IsOuter any_numbers) outers
 all_outers_fit [] ranged = tt
 all_outers_fit (outer ∷ outers) ranged = (outer_fits outer ranged.0, all_outers_fit outers ranged.1)
 
 -- an update's outers fit
-pub outers_fit : (u : Update) → IsInRange u → AllByRecursion (IsOuter (2 ^ 16)) u.outer
+pub outers_fit : (u : Update) → IsInRange u → AllByRecursion (IsOuter any_numbers) u.outer
 outers_fit u ranged = all_outers_fit u.outer ranged.outer
 
 units_below : (us : List Update) → AllByRecursion IsInRange us → AllByRecursion (λ u. u.from.0 < MAX_UNITS) us

@@ -9,8 +9,9 @@ use Rattle.wf_model.specs.declared.ids.TransId.{TransId}
 use Rattle.wf_model.specs.declared.outer.Output.{Output}
 use Rattle.wf_model.specs.declared.update.Write.{Write}
 use Rattle.wf_model.specs.declared.update.StartAt.{StartAt}
-use Rattle.wf_codec.specs.Spelling.{state_text, event_text, trans_text, write_text, start_text, output_text}
-use Rattle.wf_codec.specs.Ranges.{IsStart, IsEarlier, IsHeldValue}
+use Rattle.wf_codec.specs.Spelling.{state_spelling, event_spelling, trans_spelling, write_spelling, start_spelling, output_spelling}
+use Rattle.wf_codec.specs.Ranges.{chart_numbers, IsStart, IsEarlier, IsHeldValue}
+use Rattle.wf_codec.specs.declared.field.Numbers.{Numbers}
 use Rattle.wf_codec.specs.Reading.{least_after}
 use Rattle.wf_codec.specs.Fields.{state_at, event_at, trans_at, write_at, start_at, least_trans, least_place, output_at}
 use Rattle.wf_codec.proofs.Readers.{Reads, Reads-then, Reads-as, Reads-of}
@@ -47,10 +48,10 @@ IsNextState before s = IsNext (λ x. x.0) MAX_STATES before s
 pub states_split : IsSplit IsNextState (λ s. s.0 < MAX_STATES) (λ x y. x.0 < y.0)
 states_split = ascends (λ (s : StateId). s.0) MAX_STATES
 
-pub Reads-state : (before : Option StateId) → Reads (state_at MAX_STATES before) state_text (IsNextState before)
+pub Reads-state : (before : Option StateId) → Reads (state_at before) state_spelling (IsNextState before)
 unfolding state_at
 Reads-state before =
-    Reads-as state_text (IsNextState before)
+    Reads-as state_spelling (IsNextState before)
     (Reads-of (λ (s : StateId). s.0) (λ n. record { 0 = n }) (Reads-two (least_after (λ s. s.0) before) MAX_STATES (omega arith)) (λ n fit. refl))
     (λ s fit. refl) (λ s fit. fit.0) (λ s fit. (fit, refl))
 
@@ -60,10 +61,10 @@ IsNextEvent before e = IsNext (λ x. x.0) MAX_EVENTS before e
 pub events_split : IsSplit IsNextEvent (λ e. e.0 < MAX_EVENTS) (λ x y. x.0 < y.0)
 events_split = ascends (λ (e : EventId). e.0) MAX_EVENTS
 
-pub Reads-event : (before : Option EventId) → Reads (event_at MAX_EVENTS before) event_text (IsNextEvent before)
+pub Reads-event : (before : Option EventId) → Reads (event_at chart_numbers before) event_spelling (IsNextEvent before)
 unfolding event_at
 Reads-event before =
-    Reads-as event_text (IsNextEvent before)
+    Reads-as event_spelling (IsNextEvent before)
     (Reads-of (λ (e : EventId). e.0) (λ n. record { 0 = n }) (Reads-two (least_after (λ e. e.0) before) MAX_EVENTS (omega arith)) (λ n fit. refl))
     (λ e fit. refl) (λ e fit. fit.0) (λ e fit. (fit, refl))
 
@@ -73,10 +74,10 @@ IsNextTrans before t = IsNext (λ x. x.0) MAX_TRANSITIONS before t
 pub transitions_split : IsSplit IsNextTrans (λ t. t.0 < MAX_TRANSITIONS) (λ x y. x.0 < y.0)
 transitions_split = ascends (λ (t : TransId). t.0) MAX_TRANSITIONS
 
-pub Reads-trans : (before : Option TransId) → Reads (trans_at MAX_TRANSITIONS before) trans_text (IsNextTrans before)
+pub Reads-trans : (before : Option TransId) → Reads (trans_at before) trans_spelling (IsNextTrans before)
 unfolding trans_at
 Reads-trans before =
-    Reads-as trans_text (IsNextTrans before)
+    Reads-as trans_spelling (IsNextTrans before)
     (Reads-of (λ (t : TransId). t.0) (λ n. record { 0 = n }) (Reads-two (least_after (λ t. t.0) before) MAX_TRANSITIONS (omega arith)) (λ n fit. refl))
     (λ t fit. refl) (λ t fit. fit.0) (λ t fit. (fit, refl))
 
@@ -91,10 +92,10 @@ IsNextWrite before w = IsNext (λ x. x.var.0) MAX_VARS before w × IsHeldWrite w
 pub writes_split : IsSplit IsNextWrite (λ w. (w.var.0 < MAX_VARS) × IsHeldWrite w) (λ w x. w.var.0 < x.var.0)
 writes_split = ascends_held (λ w. w.var.0) MAX_VARS IsHeldWrite
 
-pub Reads-write : (before : Option Write) → Reads (write_at MAX_VARS before) write_text (IsNextWrite before)
+pub Reads-write : (before : Option Write) → Reads (write_at chart_numbers before) write_spelling (IsNextWrite before)
 unfolding write_at
 Reads-write before =
-    Reads-as write_text (IsNextWrite before)
+    Reads-as write_spelling (IsNextWrite before)
     (Reads-then (λ (w : Write). w.var.0) (Reads-two (least_after (λ w. w.var.0) before) MAX_VARS (omega arith))
     (λ var var_fits. Reads-then (λ (w : Write). w.trans.0) (Reads-two 0 MAX_TRANSITIONS (omega arith))
     (λ trans trans_fits. Reads-of (λ (w : Write). w.val) (λ val. record { var = record { 0 = var }; trans = record { 0 = trans }; val = val }) Reads-value (λ val fit. refl))
@@ -107,10 +108,10 @@ Reads-write before =
 abbrev pub IsNextStart : Option StartAt → StartAt → Type 0
 IsNextStart before s = (s.act.0 < MAX_ACTS) × (IsWithin (least_trans before) MAX_TRANSITIONS s.trans.0 × IsWithin (least_place before s.trans.0) MAX_ACTIONS s.place)
 
-pub Reads-start : (before : Option StartAt) → Reads (start_at MAX_ACTS before) start_text (IsNextStart before)
+pub Reads-start : (before : Option StartAt) → Reads (start_at chart_numbers before) start_spelling (IsNextStart before)
 unfolding start_at
 Reads-start before =
-    Reads-as start_text (IsNextStart before)
+    Reads-as start_spelling (IsNextStart before)
     (Reads-then (λ (s : StartAt). s.act.0) (Reads-two 0 MAX_ACTS (omega arith))
     (λ act act_fits. Reads-then (λ (s : StartAt). s.trans.0) (Reads-two (least_trans before) MAX_TRANSITIONS (omega arith))
     (λ trans trans_fits. Reads-of (λ (s : StartAt). s.place) (λ place. record { act = record { 0 = act }; trans = record { 0 = trans }; place = place }) (Reads-byte (least_place before trans) MAX_ACTIONS) (λ place fit. refl))
@@ -143,14 +144,14 @@ starts_split = record {
 
 -- ---- outputs
 
-abbrev pub IsOutput : ℕ → Output → Type 0
-IsOutput limit o = (o.var.0 < limit) × IsHeldValue o.val
+abbrev pub IsOutput : Numbers → Output → Type 0
+IsOutput numbers o = (o.var.0 < numbers.vars) × IsHeldValue o.val
 
-pub Reads-output : (limit : ℕ) → limit ≤ 2 ^ 16 → (before : Option Output) → Reads (output_at limit before) output_text (IsOutput limit)
+pub Reads-output : (numbers : Numbers) → numbers.vars ≤ 2 ^ 16 → (before : Option Output) → Reads (output_at numbers before) output_spelling (IsOutput numbers)
 unfolding output_at
-Reads-output limit small before =
-    Reads-as output_text (IsOutput limit)
-    (Reads-then (λ (o : Output). o.var.0) (Reads-two 0 limit small)
+Reads-output numbers small before =
+    Reads-as output_spelling (IsOutput numbers)
+    (Reads-then (λ (o : Output). o.var.0) (Reads-two 0 numbers.vars small)
     (λ var var_fits. Reads-of (λ (o : Output). o.val) (λ val. record { var = record { 0 = var }; val = val }) Reads-value (λ val fit. refl))
     (λ var o fit fits. ap (λ (x : Output). x.var.0) fits.1))
     (λ o fit. refl) (λ o fit. (fit.0.1, fit.1.0)) (λ o fit. ((omega arith, fit.0), (fit.1, refl)))

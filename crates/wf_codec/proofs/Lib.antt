@@ -12,7 +12,7 @@ pub mod Decoded
 pub mod Records
 pub mod Going
 pub mod GoingFields
-pub mod GoingFar
 pub mod Final
 pub mod Parts
 pub mod Fits
+pub mod Lengths

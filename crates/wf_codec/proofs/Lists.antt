@@ -15,51 +15,51 @@ abbrev pub EachFits : {A : Type 0} → (Option A → A → Type 0) → Option A 
 EachFits Fit before [] = Unit {0}
 EachFits Fit before (x ∷ xs) = Fit before x × EachFits Fit (Some x) xs
 
-items_take : {A : Type 0} (item : Option A → List ℕ → Result (A × List ℕ) Misfit) (text : A → List ℕ) (Fit : Option A → A → Type 0)
-    → ((before : Option A) → Reads (item before) text (Fit before))
+items_take : {A : Type 0} (item : Option A → List ℕ → Result (A × List ℕ) Misfit) (spelling : A → List ℕ) (Fit : Option A → A → Type 0)
+    → ((before : Option A) → Reads (item before) spelling (Fit before))
     → (n : ℕ) (before : Option A) (bytes : List ℕ) (xs : List A) (rest : List ℕ) → IsBytes bytes → items_at item n before bytes ≡ Ok (xs, rest)
-    → Takes bytes (flat_map text xs) rest × ((length xs ≡ n) × EachFits Fit before xs)
+    → Takes bytes (flat_map spelling xs) rest × ((length xs ≡ n) × EachFits Fit before xs)
 unfolding items_at
-items_take {A} item text Fit reads zero before bytes xs rest fits e =
-    subst (λ (y : List A × List ℕ). Takes bytes (flat_map text y.0) y.1 × ((length y.0 ≡ 0) × EachFits Fit before y.0)) (ok_is ([], bytes) (xs, rest) e)
+items_take {A} item spelling Fit reads zero before bytes xs rest fits e =
+    subst (λ (y : List A × List ℕ). Takes bytes (flat_map spelling y.0) y.1 × ((length y.0 ≡ 0) × EachFits Fit before y.0)) (ok_is ([], bytes) (xs, rest) e)
     (record { parts = refl; rest_fits = fits }, (refl, tt))
-items_take {A} item text Fit reads (suc n) before bytes xs rest fits e =
+items_take {A} item spelling Fit reads (suc n) before bytes xs rest fits e =
     let a = bind_ok (item before bytes) (λ first. items_at item n (Some first.0) first.1 >>= λ others. Ok (first.0 ∷ others.0, others.1)) (xs, rest) e in
     let b = bind_ok (items_at item n (Some a.0.0) a.0.1) (λ others. Ok (a.0.0 ∷ others.0, others.1)) (xs, rest) a.2 in
     let first = (reads before).takes bytes a.0.0 a.0.1 fits a.1 in
-    let second = items_take item text Fit reads n (Some a.0.0) a.0.1 b.0.0 b.0.1 first.0.rest_fits b.1 in
-    let both = Takes-then bytes (text a.0.0) a.0.1 (flat_map text b.0.0) b.0.1 first.0 second.0 in
-    let spelled : Takes bytes (flat_map text (a.0.0 ∷ b.0.0)) b.0.1 = rw flat_map-cons both in
+    let second = items_take item spelling Fit reads n (Some a.0.0) a.0.1 b.0.0 b.0.1 first.0.rest_fits b.1 in
+    let both = Takes-then bytes (spelling a.0.0) a.0.1 (flat_map spelling b.0.0) b.0.1 first.0 second.0 in
+    let spelled : Takes bytes (flat_map spelling (a.0.0 ∷ b.0.0)) b.0.1 = rw flat_map-cons both in
     let made : List A × List ℕ = (a.0.0 ∷ b.0.0, b.0.1) in
-    subst (λ (y : List A × List ℕ). Takes bytes (flat_map text y.0) y.1 × ((length y.0 ≡ suc n) × EachFits Fit before y.0)) {x = made} (ok_is made (xs, rest) b.2)
+    subst (λ (y : List A × List ℕ). Takes bytes (flat_map spelling y.0) y.1 × ((length y.0 ≡ suc n) × EachFits Fit before y.0)) {x = made} (ok_is made (xs, rest) b.2)
     (spelled, (ap suc second.1.0, (first.1, second.1.1)))
 
-items_again : {A : Type 0} (item : Option A → List ℕ → Result (A × List ℕ) Misfit) (text : A → List ℕ) (Fit : Option A → A → Type 0)
-    → ((before : Option A) → Reads (item before) text (Fit before))
-    → (before : Option A) (xs : List A) (rest : List ℕ) → EachFits Fit before xs → items_at item (length xs) before (flat_map text xs ++ rest) ≡ Ok (xs, rest)
+items_again : {A : Type 0} (item : Option A → List ℕ → Result (A × List ℕ) Misfit) (spelling : A → List ℕ) (Fit : Option A → A → Type 0)
+    → ((before : Option A) → Reads (item before) spelling (Fit before))
+    → (before : Option A) (xs : List A) (rest : List ℕ) → EachFits Fit before xs → items_at item (length xs) before (flat_map spelling xs ++ rest) ≡ Ok (xs, rest)
 unfolding items_at
-items_again {A} item text Fit reads before [] rest fits = refl
-items_again {A} item text Fit reads before (x ∷ xs) rest fits =
-    let regrouped : flat_map text (x ∷ xs) ++ rest ≡ text x ++ (flat_map text xs ++ rest) = ap (λ (s : List ℕ). s ++ rest) (flat_map-cons text x xs) ∙ append_assoc (text x) (flat_map text xs) rest in
+items_again {A} item spelling Fit reads before [] rest fits = refl
+items_again {A} item spelling Fit reads before (x ∷ xs) rest fits =
+    let regrouped : flat_map spelling (x ∷ xs) ++ rest ≡ spelling x ++ (flat_map spelling xs ++ rest) = ap (λ (s : List ℕ). s ++ rest) (flat_map-cons spelling x xs) ∙ append_assoc (spelling x) (flat_map spelling xs) rest in
     ap (items_at item (suc (length xs)) before) regrouped
-    ∙ ap (λ (r : Result (A × List ℕ) Misfit). r >>= λ first. items_at item (length xs) (Some first.0) first.1 >>= λ others. Ok (first.0 ∷ others.0, others.1)) ((reads before).again x (flat_map text xs ++ rest) fits.0)
-    ∙ ap (λ (r : Result (List A × List ℕ) Misfit). r >>= λ others. Ok (x ∷ others.0, others.1)) (items_again item text Fit reads (Some x) xs rest fits.1)
+    ∙ ap (λ (r : Result (A × List ℕ) Misfit). r >>= λ first. items_at item (length xs) (Some first.0) first.1 >>= λ others. Ok (first.0 ∷ others.0, others.1)) ((reads before).again x (flat_map spelling xs ++ rest) fits.0)
+    ∙ ap (λ (r : Result (List A × List ℕ) Misfit). r >>= λ others. Ok (x ∷ others.0, others.1)) (items_again item spelling Fit reads (Some x) xs rest fits.1)
 
-pub Reads-items : {A : Type 0} {item : Option A → List ℕ → Result (A × List ℕ) Misfit} {text : A → List ℕ} {Fit : Option A → A → Type 0}
-    → ((before : Option A) → Reads (item before) text (Fit before)) → (n : ℕ) (before : Option A)
-    → Reads (items_at item n before) (flat_map text) (λ xs. (length xs ≡ n) × EachFits Fit before xs)
-Reads-items {A} {item} {text} {Fit} reads n before = record {
-  takes = items_take item text Fit reads n before;
-  again = λ xs rest fit. ap (λ (k : ℕ). items_at item k before (flat_map text xs ++ rest)) (sym fit.0) ∙ items_again item text Fit reads before xs rest fit.1;
+pub Reads-items : {A : Type 0} {item : Option A → List ℕ → Result (A × List ℕ) Misfit} {spelling : A → List ℕ} {Fit : Option A → A → Type 0}
+    → ((before : Option A) → Reads (item before) spelling (Fit before)) → (n : ℕ) (before : Option A)
+    → Reads (items_at item n before) (flat_map spelling) (λ xs. (length xs ≡ n) × EachFits Fit before xs)
+Reads-items {A} {item} {spelling} {Fit} reads n before = record {
+  takes = items_take item spelling Fit reads n before;
+  again = λ xs rest fit. ap (λ (k : ℕ). items_at item k before (flat_map spelling xs ++ rest)) (sym fit.0) ∙ items_again item spelling Fit reads before xs rest fit.1;
 }
 
 -- a list behind its count
-pub Reads-list : {A : Type 0} {item : Option A → List ℕ → Result (A × List ℕ) Misfit} {text : A → List ℕ} {Fit : Option A → A → Type 0}
-    → ((before : Option A) → Reads (item before) text (Fit before)) → (bound : ℕ) → bound ≤ 2 ^ 16
-    → Reads (list_at item bound) (listed text) (λ xs. (length xs < bound) × EachFits Fit None xs)
+pub Reads-list : {A : Type 0} {item : Option A → List ℕ → Result (A × List ℕ) Misfit} {spelling : A → List ℕ} {Fit : Option A → A → Type 0}
+    → ((before : Option A) → Reads (item before) spelling (Fit before)) → (bound : ℕ) → bound ≤ 2 ^ 16
+    → Reads (list_at item bound) (listed spelling) (λ xs. (length xs < bound) × EachFits Fit None xs)
 unfolding list_at
-Reads-list {A} {item} {text} {Fit} reads bound small =
-    Reads-as (listed text) (λ xs. (length xs < bound) × EachFits Fit None xs)
+Reads-list {A} {item} {spelling} {Fit} reads bound small =
+    Reads-as (listed spelling) (λ xs. (length xs < bound) × EachFits Fit None xs)
     (Reads-then length (Reads-two 0 bound small) (λ n fit. Reads-items reads n None) (λ n xs fit fits. fits.0))
     (λ xs fit. refl) (λ xs fit. (fit.0.1, fit.1.1)) (λ xs fit. ((omega arith, fit.0), (refl, fit.1)))
 

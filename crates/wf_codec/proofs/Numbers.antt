@@ -1,13 +1,14 @@
 -- Bytes and numbers in a range, each a field of its own.
 use Rattle.std.proofs.Common.{◌≡◌, ℕ, ◌^◌, ◌<◌, ◌≤◌, Bool, true, false, cond, ltb, leb, List, [], ◌∷◌, ◌++◌, length, take, drop, Result, Ok, Err, refl, sym, ap, subst, ◌∙◌, arith}
+use Rattle.std.specs.Prelude.{suc, IsTrue}
 use Rattle.std.specs.Int.{Width, w16, w32, w64, byte_len, from_be_bytes, to_be_bytes}
-use Rattle.std.proofs.lemmas.Bool.{ltb-true, ltb-false, le-ltb, lt-ltb, leb-true, le-leb, and_parts}
+use Rattle.std.proofs.lemmas.Bool.{ltb-true, ltb-false, le-ltb, lt-ltb, leb-true, le-leb, and_parts, and_from}
 use Rattle.std.proofs.lemmas.List.{take_at, drop_at, take-append-drop, length-append, length-take}
 use Rattle.std.proofs.lemmas.Nat.{be_bytes_2, be_bytes_4, be_bytes_8, from_be_bytes-to_be_bytes_2, from_be_bytes-to_be_bytes_4, from_be_bytes-to_be_bytes_8}
 use Rattle.wf_codec.specs.declared.fault.Misfit.{Misfit}
 use Rattle.wf_codec.specs.declared.fault.Misfit.TheVariants.{Short, Bad}
-use Rattle.wf_codec.specs.Reading.{is_within, ranged, byte_in, number_in}
-use Rattle.wf_codec.proofs.Readers.{IsBytes, IsBytes-take, IsBytes-drop, IsBytes-rest, ok_is, Takes, Reads}
+use Rattle.wf_codec.specs.Reading.{is_within, ranged, byte_that, byte_in, number_in, eight_at}
+use Rattle.wf_codec.proofs.Readers.{IsBytes, IsBytes-take, IsBytes-drop, IsBytes-rest, ok_is, Takes, Reads, Reads-as}
 
 -- a test of which the one answer is a fault
 pub refused_not : {A : Type 0} (b : Bool) (d : Misfit) (r : Result A Misfit) (y : A) → cond b (Err d) r ≡ Ok y → (b ≡ false) × (r ≡ Ok y)
@@ -36,20 +37,31 @@ ranged_again least limit bytes n rest h = rw (le-leb least n h.0, lt-ltb n limit
 abbrev pub one_byte : ℕ → List ℕ
 one_byte b = b ∷ []
 
-byte_takes : (least limit : ℕ) (bytes : List ℕ) (x : ℕ) (rest : List ℕ) → IsBytes bytes → byte_in least limit bytes ≡ Ok (x, rest) → Takes bytes (one_byte x) rest × IsWithin least limit x
-unfolding byte_in
-byte_takes least limit [] x rest fits e = absurd cc
-byte_takes least limit (b ∷ bytes) x rest fits e =
-    let r = ranged_takes least limit (b ∷ bytes) b bytes x rest e in
-    subst (λ (y : ℕ). Takes (b ∷ bytes) (one_byte y) rest × IsWithin least limit y) r.0
-    (record { parts = ap (λ (s : List ℕ). b ∷ s) r.1; rest_fits = subst IsBytes r.1 (IsBytes-rest b bytes fits) }, r.2)
+that_takes : (test : ℕ → Bool) (bytes : List ℕ) (x : ℕ) (rest : List ℕ) → IsBytes bytes → byte_that test bytes ≡ Ok (x, rest) → Takes bytes (one_byte x) rest × IsTrue (test x)
+unfolding byte_that
+that_takes test [] x rest fits e = absurd cc
+that_takes test (c ∷ bytes) x rest fits e =
+    let p = passed (test c) (Bad (suc (length bytes))) (Ok (c, bytes)) (x, rest) e in
+    subst (λ (y : ℕ × List ℕ). Takes (c ∷ bytes) (one_byte y.0) y.1 × IsTrue (test y.0)) (ok_is (c, bytes) (x, rest) p.1)
+    (record { parts = refl; rest_fits = IsBytes-rest c bytes fits }, p.0)
 
-byte_again : (least limit b : ℕ) (rest : List ℕ) → IsWithin least limit b → byte_in least limit (b ∷ rest) ≡ Ok (b, rest)
-unfolding byte_in
-byte_again least limit b rest h = ranged_again least limit (b ∷ rest) b rest h
+that_again : (test : ℕ → Bool) (c : ℕ) (rest : List ℕ) → IsTrue (test c) → byte_that test (c ∷ rest) ≡ Ok (c, rest)
+unfolding byte_that
+that_again test c rest h = ap (λ (b : Bool). cond {A = Result (ℕ × List ℕ) Misfit} b (Ok (c, rest)) (Err (Bad (suc (length rest))))) h
+
+-- a byte that passes a test
+pub Reads-that : (test : ℕ → Bool) → Reads (byte_that test) one_byte (λ c. IsTrue (test c))
+Reads-that test = record { takes = that_takes test; again = that_again test }
+
+within_is : (least limit n : ℕ) → IsTrue (is_within least limit n) → IsWithin least limit n
+within_is least limit n h = let p = and_parts (leb least n) (ltb n limit) h in (leb-true least n p.0, ltb-true n limit p.1)
+
+is_so_within : (least limit n : ℕ) → IsWithin least limit n → IsTrue (is_within least limit n)
+is_so_within least limit n h = and_from (leb least n) (ltb n limit) (le-leb least n h.0) (lt-ltb n limit h.1)
 
 pub Reads-byte : (least limit : ℕ) → Reads (byte_in least limit) one_byte (IsWithin least limit)
-Reads-byte least limit = record { takes = byte_takes least limit; again = byte_again least limit }
+unfolding byte_in
+Reads-byte least limit = Reads-as one_byte (IsWithin least limit) (Reads-that (is_within least limit)) (λ x fit. refl) (within_is least limit) (is_so_within least limit)
 
 -- ---- numbers of several bytes
 
@@ -106,3 +118,29 @@ Reads-number w top wide least limit small = record { takes = number_takes w top 
 
 pub Reads-two : (least limit : ℕ) → limit ≤ 2 ^ 16 → Reads (number_in w16 least limit) (to_be_bytes w16) (IsWithin least limit)
 Reads-two least limit small = Reads-number w16 (2 ^ 16) wide16 least limit small
+
+-- ---- a number of eight bytes, which may be any
+
+eight_below : (bytes : List ℕ) → IsBytes bytes → from_be_bytes w64 bytes < 2 ^ 64
+eight_below bytes fits = omega (arith, fits 0, fits 1, fits 2, fits 3, fits 4, fits 5, fits 6, fits 7)
+
+eight_ranged : (bytes : List ℕ) → IsBytes bytes → eight_at bytes ≡ number_in w64 0 (2 ^ 64) bytes
+unfolding eight_at number_in
+eight_ranged bytes fits =
+    let front = take (byte_len w64) bytes in
+    let below : from_be_bytes w64 front < 2 ^ 64 = eight_below front (IsBytes-take (byte_len w64) bytes fits) in
+    ap (λ (r : Result (ℕ × List ℕ) Misfit). cond (ltb (length bytes) (byte_len w64)) (Err Short) r) (sym (ranged_again 0 (2 ^ 64) bytes (from_be_bytes w64 front) (drop (byte_len w64) bytes) (omega arith, below)))
+
+eight_again : (n : ℕ) (rest : List ℕ) → n < 2 ^ 64 → eight_at (to_be_bytes w64 n ++ rest) ≡ Ok (n, rest)
+unfolding eight_at
+eight_again n rest below =
+    let len = wide64.len n in
+    let long : ltb (length (to_be_bytes w64 n ++ rest)) (byte_len w64) ≡ false = le-ltb _ _ (omega (arith, length-append (to_be_bytes w64 n) rest)) in
+    let same : from_be_bytes w64 (take (byte_len w64) (to_be_bytes w64 n ++ rest)) ≡ n = ap (from_be_bytes w64) (take_at (to_be_bytes w64 n) rest (byte_len w64) len) ∙ wide64.again n below in
+    rw (long, same, drop_at (to_be_bytes w64 n) rest (byte_len w64) len) refl
+
+pub Reads-eight : Reads eight_at (to_be_bytes w64) (IsWithin 0 (2 ^ 64))
+Reads-eight = record {
+  takes = λ bytes x rest fits e. number_takes w64 (2 ^ 64) wide64 0 (2 ^ 64) bytes x rest fits (sym (eight_ranged bytes fits) ∙ e);
+  again = λ n rest fit. eight_again n rest fit.1;
+}

@@ -33,17 +33,17 @@ pub ok_is : {A : Type 0} (x y : A) → done x ≡ done y → x ≡ y
 ok_is x y e = cc
 
 -- what a reader took from the front
-pub record Takes (bytes text rest : List ℕ) : Type 0 where
-  pub parts : bytes ≡ text ++ rest
+pub record Takes (bytes spelling rest : List ℕ) : Type 0 where
+  pub parts : bytes ≡ spelling ++ rest
   pub rest_fits : IsBytes rest
 
 pub Takes-then : (a x b y c : List ℕ) → Takes a x b → Takes b y c → Takes a (x ++ y) c
 Takes-then a x b y c p q = record { parts = p.parts ∙ ap (λ (t : List ℕ). x ++ t) q.parts ∙ sym (append_assoc x y c); rest_fits = q.rest_fits }
 
 -- what a reader reads is spelled so and fits; what fits is read again
-pub record Reads {A : Type 0} (read : List ℕ → Result (A × List ℕ) Misfit) (text : A → List ℕ) (Fit : A → Type 0) : Type 0 where
-  pub takes : (bytes : List ℕ) (x : A) (rest : List ℕ) → IsBytes bytes → read bytes ≡ Ok (x, rest) → Takes bytes (text x) rest × Fit x
-  pub again : (x : A) (rest : List ℕ) → Fit x → read (text x ++ rest) ≡ Ok (x, rest)
+pub record Reads {A : Type 0} (read : List ℕ → Result (A × List ℕ) Misfit) (spelling : A → List ℕ) (Fit : A → Type 0) : Type 0 where
+  pub takes : (bytes : List ℕ) (x : A) (rest : List ℕ) → IsBytes bytes → read bytes ≡ Ok (x, rest) → Takes bytes (spelling x) rest × Fit x
+  pub again : (x : A) (rest : List ℕ) → Fit x → read (spelling x ++ rest) ≡ Ok (x, rest)
 
 -- a value that is there without reading
 pub Reads-made : {A : Type 0} (made : A) → Reads (λ bytes. Ok (made, bytes)) (λ x. []) (λ x. x ≡ made)
@@ -55,28 +55,28 @@ Reads-made {A} made = record {
 }
 
 -- a first part, and then the others, whose value has that first part
-pub Reads-then : {A B : Type 0} {first : List ℕ → Result (A × List ℕ) Misfit} {text : A → List ℕ} {Fit : A → Type 0}
+pub Reads-then : {A B : Type 0} {first : List ℕ → Result (A × List ℕ) Misfit} {spelling : A → List ℕ} {Fit : A → Type 0}
     {next : A → List ℕ → Result (B × List ℕ) Misfit} {others : B → List ℕ} {Fits : A → B → Type 0}
-    (part : B → A) → Reads first text Fit → ((a : A) → Fit a → Reads (next a) others (Fits a)) → ((a : A) (b : B) → Fit a → Fits a b → part b ≡ a)
-    → Reads (λ bytes. first bytes >>= λ x. next x.0 x.1) (λ b. text (part b) ++ others b) (λ b. Fit (part b) × Fits (part b) b)
-Reads-then {A} {B} {first} {text} {Fit} {next} {others} {Fits} part one two same = record {
+    (part : B → A) → Reads first spelling Fit → ((a : A) → Fit a → Reads (next a) others (Fits a)) → ((a : A) (b : B) → Fit a → Fits a b → part b ≡ a)
+    → Reads (λ bytes. first bytes >>= λ x. next x.0 x.1) (λ b. spelling (part b) ++ others b) (λ b. Fit (part b) × Fits (part b) b)
+Reads-then {A} {B} {first} {spelling} {Fit} {next} {others} {Fits} part one two same = record {
   takes = λ bytes b rest fits e.
       let s = bind_ok (first bytes) (λ x. next x.0 x.1) (b, rest) e in
       let t = one.takes bytes s.0.0 s.0.1 fits s.1 in
       let u = (two s.0.0 t.1).takes s.0.1 b rest t.0.rest_fits s.2 in
-      subst (λ (a : A). Takes bytes (text a ++ others b) rest × (Fit a × Fits a b)) (sym (same s.0.0 b t.1 u.1))
-      (Takes-then bytes (text s.0.0) s.0.1 (others b) rest t.0 u.0, (t.1, u.1));
+      subst (λ (a : A). Takes bytes (spelling a ++ others b) rest × (Fit a × Fits a b)) (sym (same s.0.0 b t.1 u.1))
+      (Takes-then bytes (spelling s.0.0) s.0.1 (others b) rest t.0 u.0, (t.1, u.1));
   again = λ b rest fit.
-      let e : (text (part b) ++ others b) ++ rest ≡ text (part b) ++ (others b ++ rest) = append_assoc (text (part b)) (others b) rest in
+      let e : (spelling (part b) ++ others b) ++ rest ≡ spelling (part b) ++ (others b ++ rest) = append_assoc (spelling (part b)) (others b) rest in
       ap (λ (bytes : List ℕ). first bytes >>= λ x. next x.0 x.1) e
       ∙ ap (λ (r : Result (A × List ℕ) Misfit). r >>= λ x. next x.0 x.1) (one.again (part b) (others b ++ rest) fit.0)
       ∙ (two (part b) fit.0).again b rest fit.1;
 }
 
 -- the same reader, with the spelling and the range in other words
-pub Reads-as : {A : Type 0} {read : List ℕ → Result (A × List ℕ) Misfit} {text : A → List ℕ} {Fit : A → Type 0} (as_text : A → List ℕ) (As : A → Type 0)
-    → Reads read text Fit → ((x : A) → Fit x → text x ≡ as_text x) → ((x : A) → Fit x → As x) → ((x : A) → As x → Fit x) → Reads read as_text As
-Reads-as {A} {read} {text} {Fit} as_text As reads same to from = record {
+pub Reads-as : {A : Type 0} {read : List ℕ → Result (A × List ℕ) Misfit} {spelling : A → List ℕ} {Fit : A → Type 0} (as_spelling : A → List ℕ) (As : A → Type 0)
+    → Reads read spelling Fit → ((x : A) → Fit x → spelling x ≡ as_spelling x) → ((x : A) → Fit x → As x) → ((x : A) → As x → Fit x) → Reads read as_spelling As
+Reads-as {A} {read} {spelling} {Fit} as_spelling As reads same to from = record {
   takes = λ bytes x rest fits e.
       let t = reads.takes bytes x rest fits e in
       (subst (λ (s : List ℕ). Takes bytes s rest) (same x t.1) t.0, to x t.1);
@@ -84,10 +84,10 @@ Reads-as {A} {read} {text} {Fit} as_text As reads same to from = record {
 }
 
 -- a value that is made of one part
-pub Reads-of : {A B : Type 0} {read : List ℕ → Result (A × List ℕ) Misfit} {text : A → List ℕ} {Fit : A → Type 0}
-    (part : B → A) (make : A → B) → Reads read text Fit → ((a : A) → Fit a → part (make a) ≡ a)
-    → Reads (λ bytes. read bytes >>= λ x. Ok (make x.0, x.1)) (λ b. text (part b)) (λ b. Fit (part b) × (b ≡ make (part b)))
-Reads-of {A} {B} {read} {text} {Fit} part make reads back =
-    Reads-as (λ b. text (part b)) (λ b. Fit (part b) × (b ≡ make (part b)))
+pub Reads-of : {A B : Type 0} {read : List ℕ → Result (A × List ℕ) Misfit} {spelling : A → List ℕ} {Fit : A → Type 0}
+    (part : B → A) (make : A → B) → Reads read spelling Fit → ((a : A) → Fit a → part (make a) ≡ a)
+    → Reads (λ bytes. read bytes >>= λ x. Ok (make x.0, x.1)) (λ b. spelling (part b)) (λ b. Fit (part b) × (b ≡ make (part b)))
+Reads-of {A} {B} {read} {spelling} {Fit} part make reads back =
+    Reads-as (λ b. spelling (part b)) (λ b. Fit (part b) × (b ≡ make (part b)))
     (Reads-then {next = λ a bytes. Ok (make a, bytes)} {others = λ b. []} {Fits = λ a b. b ≡ make a} part reads (λ a fit. Reads-made (make a)) (λ a b fit e. ap part e ∙ back a fit))
-    (λ b fit. append-nil (text (part b))) (λ b fit. fit) (λ b fit. fit)
+    (λ b fit. append-nil (spelling (part b))) (λ b fit. fit) (λ b fit. fit)

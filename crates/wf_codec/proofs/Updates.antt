@@ -6,8 +6,9 @@ use Rattle.wf_model.specs.declared.ids.StateId.{StateId}
 use Rattle.wf_model.specs.declared.ids.EventId.{EventId}
 use Rattle.wf_model.specs.declared.update.Write.{Write}
 use Rattle.wf_model.specs.declared.update.Update.{Update}
+use Rattle.wf_codec.specs.declared.update.TheConstants.{TAG}
 use Rattle.wf_codec.specs.Spelling.{spelling_of}
-use Rattle.wf_codec.specs.Ranges.{IsWrite, IsOuter, IsInRange, IsHeldValue, IsHeldOuter, IsHeld, IsUpdate}
+use Rattle.wf_codec.specs.Ranges.{chart_numbers, IsWrite, IsOuter, IsInRange, IsHeldValue, IsHeldOuter, IsHeld, IsUpdate}
 use Rattle.wf_codec.specs.Reading.{least_after}
 use Rattle.wf_codec.specs.Fields.{update_at}
 use Rattle.wf_codec.proofs.Fits.{ascending_few}
@@ -33,9 +34,9 @@ IsNextUpdate before u = IsOver before u × IsUpdate u
 -- the parts as they are read
 abbrev AreRead : Option Update → Update → Type 0
 AreRead before u =
-    IsWithin 85 86 85 × (IsOver before u × (IsWithin 1 (MAX_STEPS + 2) u.step
+    IsWithin TAG (TAG + 1) TAG × (IsOver before u × (IsWithin 1 (MAX_STEPS + 2) u.step
     × (IsList IsNextState (MAX_STATES + 1) u.flips × (IsList IsNextWrite (2 ^ 16) u.writes × (IsList IsNextEvent (2 ^ 16) u.raised
-    × (IsList IsNextStart (MAX_STARTS + 1) u.starts × (IsList IsNextTrans (MAX_FIRED + 1) u.fired × (IsList (λ b. IsWhole MAX_EVENTS) (MAX_SEALED + 1) u.outer × (u ≡ u)))))))))
+    × (IsList IsNextStart (MAX_STARTS + 1) u.starts × (IsList IsNextTrans (MAX_FIRED + 1) u.fired × (IsList (λ b. IsWhole chart_numbers) (MAX_SEALED + 1) u.outer × (u ≡ u)))))))))
 
 read_is_next : (before : Option Update) (u : Update) → AreRead before u → IsNextUpdate before u
 read_is_next before u (tag, (from, (step, (flips, (writes, (raised, (starts, (fired, (outer, same))))))))) =
@@ -44,7 +45,7 @@ read_is_next before u (tag, (from, (step, (flips, (writes, (raised, (starts, (fi
     let event = in_order events_split u.raised raised.1 in
     let start = in_order starts_split u.starts starts.1 in
     let transition = in_order transitions_split u.fired fired.1 in
-    let each = each_alone (IsWhole MAX_EVENTS) None u.outer outer.1 in
+    let each = each_alone (IsWhole chart_numbers) None u.outer outer.1 in
     let ranges : IsInRange u = record {
       from = from.1;
       step = (step.0, omega (arith, step.1));
@@ -60,11 +61,11 @@ read_is_next before u (tag, (from, (step, (flips, (writes, (raised, (starts, (fi
       fired = transition.0;
       fired_ascend = transition.1;
       fired_few = omega (arith, fired.0);
-      outer = all_as (IsWhole MAX_EVENTS) (IsOuter MAX_EVENTS) (λ o p. p.0) u.outer each;
+      outer = all_as (IsWhole chart_numbers) (IsOuter chart_numbers) (λ o p. p.0) u.outer each;
       outer_few = omega (arith, outer.0);
     } in
     let held : IsHeld u =
-    (all_as (λ w. (w.var.0 < MAX_VARS) × IsHeldWrite w) (λ w. IsHeldValue w.val) (λ w p. p.1.1) u.writes write.0, all_as (IsWhole MAX_EVENTS) IsHeldOuter (λ o p. p.1) u.outer each) in
+    (all_as (λ w. (w.var.0 < MAX_VARS) × IsHeldWrite w) (λ w. IsHeldValue w.val) (λ w p. p.1.1) u.writes write.0, all_as (IsWhole chart_numbers) IsHeldOuter (λ o p. p.1) u.outer each) in
     (from, (ranges, held))
 
 next_is_read : (before : Option Update) (u : Update) → IsNextUpdate before u → AreRead before u
@@ -80,15 +81,15 @@ next_is_read before u (from, (ranges, held)) =
     let raised : IsList IsNextEvent (2 ^ 16) u.raised = (omega (arith, few_raised), each_fits events_split u.raised ranges.raised ranges.raised_ascend) in
     let starts : IsList IsNextStart (MAX_STARTS + 1) u.starts = (omega (arith, ranges.starts_few), each_fits starts_split u.starts ranges.starts ranges.starts_ascend) in
     let fired : IsList IsNextTrans (MAX_FIRED + 1) u.fired = (omega (arith, ranges.fired_few), each_fits transitions_split u.fired ranges.fired ranges.fired_ascend) in
-    let outer : IsList (λ b. IsWhole MAX_EVENTS) (MAX_SEALED + 1) u.outer =
-    (omega (arith, ranges.outer_few), all_fit (IsWhole MAX_EVENTS) None u.outer (all_both (IsOuter MAX_EVENTS) IsHeldOuter u.outer ranges.outer held.1)) in
+    let outer : IsList (λ b. IsWhole chart_numbers) (MAX_SEALED + 1) u.outer =
+    (omega (arith, ranges.outer_few), all_fit (IsWhole chart_numbers) None u.outer (all_both (IsOuter chart_numbers) IsHeldOuter u.outer ranges.outer held.1)) in
     ((omega arith, omega arith), (from, (step, (flips, (writes, (raised, (starts, (fired, (outer, refl)))))))))
 
-pub Reads-update : (before : Option Update) → Reads (update_at MAX_UNITS before) spelling_of (IsNextUpdate before)
+pub Reads-update : (before : Option Update) → Reads (update_at chart_numbers before) spelling_of (IsNextUpdate before)
 unfolding update_at spelling_of
 Reads-update before =
     Reads-as spelling_of (IsNextUpdate before)
-    (Reads-then (λ (u : Update). 85) (Reads-byte 85 86)
+    (Reads-then (λ (u : Update). TAG) (Reads-byte TAG (TAG + 1))
     (λ tag tag_fits. Reads-then (λ (u : Update). u.from.0) (Reads-byte (least_after (λ u. u.from.0) before) MAX_UNITS)
     (λ from from_fits. Reads-then (λ (u : Update). u.step) (Reads-number w32 (2 ^ 32) wide32 1 (MAX_STEPS + 2) (omega arith))
     (λ step step_fits. Reads-then (λ (u : Update). u.flips) (Reads-list Reads-state (MAX_STATES + 1) (omega arith))
@@ -98,7 +99,7 @@ Reads-update before =
     (λ starts starts_fit. Reads-then (λ (u : Update). u.fired) (Reads-list Reads-trans (MAX_FIRED + 1) (omega arith))
     (λ fired fired_fit. Reads-of (λ (u : Update). u.outer)
     (λ outer. record { from = record { 0 = from }; step = step; flips = flips; writes = writes; raised = raised; starts = starts; fired = fired; outer = outer })
-    (Reads-list (Reads-outer MAX_EVENTS (omega arith)) (MAX_SEALED + 1) (omega arith))
+    (Reads-list (Reads-outer chart_numbers (omega arith, omega arith, omega arith)) (MAX_SEALED + 1) (omega arith))
     (λ outer fit. refl))
     (λ fired u fit fits. ap (λ (w : Update). w.fired) fits.1))
     (λ starts u fit fits. ap (λ (w : Update). w.starts) fits.1.1))
@@ -110,10 +111,10 @@ Reads-update before =
     (λ tag u fit fits. omega (arith, fit.0, fit.1)))
     (λ u fit. refl) (read_is_next before) (next_is_read before)
 
-pub update_takes : (bytes : List ℕ) (u : Update) (rest : List ℕ) → IsBytes bytes → update_at MAX_UNITS None bytes ≡ Ok (u, rest) → Takes bytes (spelling_of u) rest × IsUpdate u
+pub update_takes : (bytes : List ℕ) (u : Update) (rest : List ℕ) → IsBytes bytes → update_at chart_numbers None bytes ≡ Ok (u, rest) → Takes bytes (spelling_of u) rest × IsUpdate u
 update_takes bytes u rest fits e =
     let t = (Reads-update None).takes bytes u rest fits e in
     (t.0, t.1.1)
 
-pub update_again : (u : Update) (rest : List ℕ) → IsUpdate u → update_at MAX_UNITS None (spelling_of u ++ rest) ≡ Ok (u, rest)
+pub update_again : (u : Update) (rest : List ℕ) → IsUpdate u → update_at chart_numbers None (spelling_of u ++ rest) ≡ Ok (u, rest)
 update_again u rest is = (Reads-update None).again u rest ((omega arith, is.0.from), is)

@@ -1,7 +1,7 @@
 -- Reading the fields of an update.
-use Rattle.std.specs.Prelude.{ℕ, zero, suc, ◌+◌, ◌-◌, ◌^◌, ◌==◌, List, [], ◌∷◌, length, Option, Some, None, Result, Ok, Err, if◌then◌else◌}
+use Rattle.std.specs.Prelude.{ℕ, suc, ◌+◌, ◌-◌, ◌^◌, ◌==◌, List, [], ◌∷◌, length, Option, Some, None, Result, Ok, Err, if◌then◌else◌}
 use Rattle.std.specs.Int.{w16, w32, w64, cast_signed}
-use Rattle.wf_model.specs.declared.limits.TheConstants.{MAX_UNITS, MAX_EVENTS, MAX_VARS, MAX_ACTS, MAX_STATES, MAX_TRANSITIONS, MAX_ACTIONS, MAX_OUTPUTS, MAX_TEXT, MAX_STEPS, MAX_FIRED, MAX_STARTS, MAX_SEALED}
+use Rattle.wf_model.specs.declared.limits.TheConstants.{MAX_UNITS, MAX_STATES, MAX_TRANSITIONS, MAX_ACTIONS, MAX_OUTPUTS, MAX_TEXT, MAX_STEPS, MAX_FIRED, MAX_STARTS, MAX_SEALED}
 use Rattle.wf_model.specs.Txt.{is_text_char}
 use Rattle.wf_model.specs.declared.ids.StateId.{StateId}
 use Rattle.wf_model.specs.declared.ids.EventId.{EventId}
@@ -18,50 +18,54 @@ use Rattle.wf_codec.specs.declared.fault.Misfit.{Misfit}
 use Rattle.wf_codec.specs.declared.fault.Misfit.TheVariants.{Short, Bad}
 use Rattle.wf_codec.specs.declared.fault.CodecFault.{CodecFault}
 use Rattle.wf_codec.specs.declared.fault.CodecFault.TheVariants as codec
-use Rattle.wf_codec.specs.Reading.{◌>>=◌, byte_in, number_in, items_at, least_after}
+use Rattle.wf_codec.specs.declared.field.Numbers.{Numbers}
+use Rattle.wf_codec.specs.declared.value.TheConstants.{BOOL, INT, TEXT}
+use Rattle.wf_codec.specs.declared.outer.TheConstants.{HAPPEN, COMPLETE}
+use Rattle.wf_codec.specs.declared.update.TheConstants.{TAG}
+use Rattle.wf_codec.specs.Ranges.{chart_numbers}
+use Rattle.wf_codec.specs.Reading.{◌>>=◌, byte_in, number_in, eight_at, items_at, bytes_that, least_after}
 
--- a text character
-unfoldable pub char_at : Option ℕ → List ℕ → Result (ℕ × List ℕ) Misfit
-char_at before [] = Err Short
-char_at before (c ∷ rest) = if is_text_char c then Ok (c, rest) else Err (Bad (suc (length rest)))
-
--- a value behind its sort: 0, 1 or 2
-unfoldable pub value_of_sort : ℕ → List ℕ → Result (Val × List ℕ) Misfit
-value_of_sort zero bytes = do
+unfoldable pub bool_at : List ℕ → Result (Val × List ℕ) Misfit
+bool_at bytes = do
   b ← byte_in 0 2 bytes
   Ok (v.Bool (b.0 == 1), b.1)
-value_of_sort (suc zero) bytes = do
-  n ← number_in w64 0 (2 ^ 64) bytes
+
+unfoldable pub int_at : List ℕ → Result (Val × List ℕ) Misfit
+int_at bytes = do
+  n ← eight_at bytes
   Ok (v.Int (cast_signed w64 n.0), n.1)
-value_of_sort (suc (suc sort)) bytes = do
+
+unfoldable pub text_at : List ℕ → Result (Val × List ℕ) Misfit
+text_at bytes = do
   len ← byte_in 0 (MAX_TEXT + 1) bytes
-  cs ← items_at char_at len.0 None len.1
+  cs ← bytes_that is_text_char len.0 len.1
   Ok (v.Text cs.0, cs.1)
 
+-- a value behind its sort
 unfoldable pub value_at : List ℕ → Result (Val × List ℕ) Misfit
 value_at bytes = do
-  sort ← byte_in 0 3 bytes
-  value_of_sort sort.0 sort.1
+  sort ← byte_in BOOL (TEXT + 1) bytes
+  if sort.0 == BOOL then bool_at sort.1 else (if sort.0 == INT then int_at sort.1 else text_at sort.1)
 
--- The items of lists. The limit is on the item's own number, and an item may not be before the one that it follows.
-unfoldable pub state_at : ℕ → Option StateId → List ℕ → Result (StateId × List ℕ) Misfit
-state_at limit before bytes = do
-  n ← number_in w16 (least_after (λ s. s.0) before) limit bytes
+-- The items of lists. Some of their own numbers are below limits, and an item may not be before the one that it follows.
+unfoldable pub state_at : Option StateId → List ℕ → Result (StateId × List ℕ) Misfit
+state_at before bytes = do
+  n ← number_in w16 (least_after (λ s. s.0) before) MAX_STATES bytes
   Ok (record { 0 = n.0 }, n.1)
 
-unfoldable pub event_at : ℕ → Option EventId → List ℕ → Result (EventId × List ℕ) Misfit
-event_at limit before bytes = do
-  n ← number_in w16 (least_after (λ e. e.0) before) limit bytes
+unfoldable pub event_at : Numbers → Option EventId → List ℕ → Result (EventId × List ℕ) Misfit
+event_at numbers before bytes = do
+  n ← number_in w16 (least_after (λ e. e.0) before) numbers.events bytes
   Ok (record { 0 = n.0 }, n.1)
 
-unfoldable pub trans_at : ℕ → Option TransId → List ℕ → Result (TransId × List ℕ) Misfit
-trans_at limit before bytes = do
-  n ← number_in w16 (least_after (λ t. t.0) before) limit bytes
+unfoldable pub trans_at : Option TransId → List ℕ → Result (TransId × List ℕ) Misfit
+trans_at before bytes = do
+  n ← number_in w16 (least_after (λ t. t.0) before) MAX_TRANSITIONS bytes
   Ok (record { 0 = n.0 }, n.1)
 
-unfoldable pub write_at : ℕ → Option Write → List ℕ → Result (Write × List ℕ) Misfit
-write_at limit before bytes = do
-  var ← number_in w16 (least_after (λ w. w.var.0) before) limit bytes
+unfoldable pub write_at : Numbers → Option Write → List ℕ → Result (Write × List ℕ) Misfit
+write_at numbers before bytes = do
+  var ← number_in w16 (least_after (λ w. w.var.0) before) numbers.vars bytes
   trans ← number_in w16 0 MAX_TRANSITIONS var.1
   val ← value_at trans.1
   Ok (record { var = record { 0 = var.0 }; trans = record { 0 = trans.0 }; val = val.0 }, val.1)
@@ -75,36 +79,37 @@ abbrev pub least_place : Option StartAt → ℕ → ℕ
 least_place None t = 0
 least_place (Some s) t = if s.trans.0 == t then suc s.place else 0
 
-unfoldable pub start_at : ℕ → Option StartAt → List ℕ → Result (StartAt × List ℕ) Misfit
-start_at limit before bytes = do
-  act ← number_in w16 0 limit bytes
+unfoldable pub start_at : Numbers → Option StartAt → List ℕ → Result (StartAt × List ℕ) Misfit
+start_at numbers before bytes = do
+  act ← number_in w16 0 numbers.acts bytes
   trans ← number_in w16 (least_trans before) MAX_TRANSITIONS act.1
   place ← byte_in (least_place before trans.0) MAX_ACTIONS trans.1
   Ok (record { act = record { 0 = act.0 }; trans = record { 0 = trans.0 }; place = place.0 }, place.1)
 
-unfoldable pub output_at : ℕ → Option Output → List ℕ → Result (Output × List ℕ) Misfit
-output_at limit before bytes = do
-  var ← number_in w16 0 limit bytes
+unfoldable pub output_at : Numbers → Option Output → List ℕ → Result (Output × List ℕ) Misfit
+output_at numbers before bytes = do
+  var ← number_in w16 0 numbers.vars bytes
   val ← value_at var.1
   Ok (record { var = record { 0 = var.0 }; val = val.0 }, val.1)
 
-unfoldable pub happening_at : ℕ → List ℕ → Result (Outer × List ℕ) Misfit
-happening_at limit bytes = do
-  event ← number_in w16 0 limit bytes
+unfoldable pub happening_at : Numbers → List ℕ → Result (Outer × List ℕ) Misfit
+happening_at numbers bytes = do
+  event ← number_in w16 0 numbers.events bytes
   Ok (Happen (record { 0 = event.0 }), event.1)
 
-unfoldable pub completion_at : ℕ → List ℕ → Result (Outer × List ℕ) Misfit
-completion_at limit bytes = do
+unfoldable pub completion_at : Numbers → List ℕ → Result (Outer × List ℕ) Misfit
+completion_at numbers bytes = do
   item ← number_in w32 1 (2 ^ 32) bytes
-  act ← number_in w16 0 limit item.1
+  act ← number_in w16 0 numbers.acts item.1
   count ← byte_in 0 (MAX_OUTPUTS + 1) act.1
-  outputs ← items_at (output_at limit) count.0 None count.1
+  outputs ← items_at (output_at numbers) count.0 None count.1
   Ok (Complete item.0 (record { 0 = act.0 }) outputs.0, outputs.1)
 
-unfoldable pub outer_at : ℕ → Option Outer → List ℕ → Result (Outer × List ℕ) Misfit
-outer_at limit before bytes = do
-  kind ← byte_in 0 2 bytes
-  if kind.0 == 0 then happening_at limit kind.1 else completion_at limit kind.1
+-- an outer behind its kind
+unfoldable pub outer_at : Numbers → Option Outer → List ℕ → Result (Outer × List ℕ) Misfit
+outer_at numbers before bytes = do
+  kind ← byte_in HAPPEN (COMPLETE + 1) bytes
+  if kind.0 == HAPPEN then happening_at numbers kind.1 else completion_at numbers kind.1
 
 -- a list behind its count, which is below a bound
 unfoldable pub list_at : {A : Type 0} → (Option A → List ℕ → Result (A × List ℕ) Misfit) → ℕ → List ℕ → Result (List A × List ℕ) Misfit
@@ -112,18 +117,18 @@ list_at item bound bytes = do
   count ← number_in w16 0 bound bytes
   items_at item count.0 None count.1
 
--- an update of a unit with a number below the limit and over that of the update before it
-unfoldable pub update_at : ℕ → Option Update → List ℕ → Result (Update × List ℕ) Misfit
-update_at limit before bytes = do
-  tag ← byte_in 85 86 bytes
-  from ← byte_in (least_after (λ u. u.from.0) before) limit tag.1
+-- an update of a unit with a number over that of the update before it
+unfoldable pub update_at : Numbers → Option Update → List ℕ → Result (Update × List ℕ) Misfit
+update_at numbers before bytes = do
+  tag ← byte_in TAG (TAG + 1) bytes
+  from ← byte_in (least_after (λ u. u.from.0) before) MAX_UNITS tag.1
   step ← number_in w32 1 (MAX_STEPS + 2) from.1
-  flips ← list_at (state_at MAX_STATES) (MAX_STATES + 1) step.1
-  writes ← list_at (write_at MAX_VARS) (2 ^ 16) flips.1
-  raised ← list_at (event_at MAX_EVENTS) (2 ^ 16) writes.1
-  starts ← list_at (start_at MAX_ACTS) (MAX_STARTS + 1) raised.1
-  fired ← list_at (trans_at MAX_TRANSITIONS) (MAX_FIRED + 1) starts.1
-  outer ← list_at (outer_at MAX_EVENTS) (MAX_SEALED + 1) fired.1
+  flips ← list_at state_at (MAX_STATES + 1) step.1
+  writes ← list_at (write_at numbers) (2 ^ 16) flips.1
+  raised ← list_at (event_at numbers) (2 ^ 16) writes.1
+  starts ← list_at (start_at numbers) (MAX_STARTS + 1) raised.1
+  fired ← list_at trans_at (MAX_FIRED + 1) starts.1
+  outer ← list_at (outer_at numbers) (MAX_SEALED + 1) fired.1
   Ok (record { from = record { 0 = from.0 }; step = step.0; flips = flips.0; writes = writes.0; raised = raised.0; starts = starts.0; fired = fired.0; outer = outer.0 }, outer.1)
 
 -- what reading an update from the front of bytes of this length tells: the update and its length, or the fault and its place
@@ -134,4 +139,4 @@ told len (Err (Bad left)) = Err (codec.BadField (len - left))
 
 unfoldable pub decoded : List ℕ → Result (Update × ℕ) CodecFault
 decoded [] = Err codec.Short
-decoded (tag ∷ rest) = if tag == 85 then told (suc (length rest)) (update_at MAX_UNITS None (tag ∷ rest)) else Err codec.BadTag
+decoded (tag ∷ rest) = if tag == TAG then told (suc (length rest)) (update_at chart_numbers None (tag ∷ rest)) else Err codec.BadTag

@@ -1,6 +1,5 @@
--- When an answer is final: just where the bytes aren't too few.
-use Rattle.std.specs.Prelude.{ℕ, ◌≡◌, ◌≢◌, ◌<◌, ◌≤◌, List, ◌++◌, length, take, Ok, Err}
-use Rattle.std.specs.List.{AllByRecursion}
+-- When an answer is final, and when it comes.
+use Rattle.std.specs.Prelude.{ℕ, ◌≡◌, ◌≢◌, ◌+◌, ◌<◌, ◌≤◌, List, ◌++◌, length, take, Ok, Err}
 use Rattle.wf_model.specs.declared.update.Update.{Update}
 use Rattle.wf_codec.specs.declared.fault.CodecFault.TheVariants as codec
 use Rattle.wf_codec.specs.Fields.{decoded}
@@ -21,8 +20,8 @@ FrontIsShort =
     (bytes : List ℕ) (update : Update) (n m : ℕ) → decoded bytes ≡ Ok (update, n) → m < n →
     decoded (take m bytes) ≡ Err codec.Short
 
--- bytes that are too few can go on to an answer
-abbrev pub ShortGoesOn : Type 0
-ShortGoesOn =
-    (bytes : List ℕ) → decoded bytes ≡ Err codec.Short →
-    (more : List ℕ) × AllByRecursion (λ byte. byte < 256) more × (decoded (bytes ++ more) ≢ Err codec.Short)
+-- a bad field is told as soon as its bytes are there, of which it has at most four
+abbrev pub FaultComesAtOnce : Type 0
+FaultComesAtOnce =
+    (bytes : List ℕ) (at n : ℕ) → decoded bytes ≡ Err (codec.BadField at) → at + 4 ≤ n →
+    decoded (take n bytes) ≡ Err (codec.BadField at)

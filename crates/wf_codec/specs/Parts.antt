@@ -1,12 +1,12 @@
 -- The two halves of the lists of an update.
 use Rattle.std.specs.Prelude.{ℕ, List, ◌++◌}
 use Rattle.wf_model.specs.declared.update.Update.{Update}
-use Rattle.wf_codec.specs.Spelling.{listed, state_text, write_text, event_text, start_text, trans_text, outer_text}
+use Rattle.wf_codec.specs.Spelling.{listed, state_spelling, write_spelling, event_spelling, start_spelling, trans_spelling, outer_spelling}
 
 -- the states, the variables and the events
-unfoldable pub changes_text : Update → List ℕ
-changes_text u = listed state_text u.flips ++ (listed write_text u.writes ++ listed event_text u.raised)
+unfoldable pub changes_spelling : Update → List ℕ
+changes_spelling u = listed state_spelling u.flips ++ (listed write_spelling u.writes ++ listed event_spelling u.raised)
 
 -- the starts, what fired and the outers
-unfoldable pub doings_text : Update → List ℕ
-doings_text u = listed start_text u.starts ++ (listed trans_text u.fired ++ listed outer_text u.outer)
+unfoldable pub rest_spelling : Update → List ℕ
+rest_spelling u = listed start_spelling u.starts ++ (listed trans_spelling u.fired ++ listed outer_spelling u.outer)

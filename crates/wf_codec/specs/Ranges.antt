@@ -12,6 +12,7 @@ use Rattle.wf_model.specs.declared.outer.Outer.TheVariants.{Happen, Complete}
 use Rattle.wf_model.specs.declared.update.Write.{Write}
 use Rattle.wf_model.specs.declared.update.StartAt.{StartAt}
 use Rattle.wf_model.specs.declared.update.Update.{Update}
+use Rattle.wf_codec.specs.declared.field.Numbers.{Numbers}
 
 -- each stands so to the next
 abbrev pub InOrder : {A : Type 0} → (A → A → Type 0) → List A → Type 0
@@ -33,10 +34,18 @@ IsWrite w = (w.var.0 < MAX_VARS) × (w.trans.0 < MAX_TRANSITIONS)
 abbrev pub IsStart : StartAt → Type 0
 IsStart s = (s.act.0 < MAX_ACTS) × (s.trans.0 < MAX_TRANSITIONS) × (s.place < MAX_ACTIONS)
 
--- an outer whose event, activity and variables have numbers below a limit; items count from 1
-abbrev pub IsOuter : ℕ → Outer → Type 0
-IsOuter limit (Happen e) = e.0 < limit
-IsOuter limit (Complete item act outputs) = (1 ≤ item) × (act.0 < limit) × (length outputs ≤ MAX_OUTPUTS) × AllByRecursion (λ o. o.var.0 < limit) outputs
+-- the numbers of a chart's events, activities and variables are below these
+abbrev pub chart_numbers : Numbers
+chart_numbers = record { events = MAX_EVENTS; acts = MAX_ACTS; vars = MAX_VARS }
+
+-- the numbers that two bytes can spell are below these
+abbrev pub any_numbers : Numbers
+any_numbers = record { events = 2 ^ 16; acts = 2 ^ 16; vars = 2 ^ 16 }
+
+-- an outer whose event, activity and variables have such numbers; items count from 1
+abbrev pub IsOuter : Numbers → Outer → Type 0
+IsOuter numbers (Happen e) = e.0 < numbers.events
+IsOuter numbers (Complete item act outputs) = (1 ≤ item) × (act.0 < numbers.acts) × (length outputs ≤ MAX_OUTPUTS) × AllByRecursion (λ o. o.var.0 < numbers.vars) outputs
 
 -- each field is in its range, and each list in its order
 pub record IsInRange (u : Update) : Type 0 where
@@ -54,7 +63,7 @@ pub record IsInRange (u : Update) : Type 0 where
   pub fired : AllByRecursion (λ t. t.0 < MAX_TRANSITIONS) u.fired
   pub fired_ascend : Ascend (λ t. t.0) u.fired
   pub fired_few : length u.fired ≤ MAX_FIRED
-  pub outer : AllByRecursion (IsOuter MAX_EVENTS) u.outer
+  pub outer : AllByRecursion (IsOuter chart_numbers) u.outer
   pub outer_few : length u.outer ≤ MAX_SEALED
 
 -- What the types keep of each value that a program holds.

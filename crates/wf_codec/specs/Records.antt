@@ -1,16 +1,17 @@
 -- The records of a journal: their one spelling, and how they are read.
 use Rattle.std.specs.Prelude.{ℕ, suc, ◌≡◌, ◌+◌, ◌^◌, ◌<◌, ◌≤◌, ◌==◌, ◌||◌, Bool, IsTrue, List, [], ◌∷◌, ◌++◌, length, Option, Some, None, Result, Ok, Err, if◌then◌else◌}
 use Rattle.std.specs.List.{flat_map, list_all, AllByRecursion}
-use Rattle.std.specs.Int.{w16, w32, w64}
-use Rattle.wf_model.specs.declared.limits.TheConstants.{MAX_UNITS, MAX_NAME}
+use Rattle.std.specs.Int.{w16, w32}
+use Rattle.wf_model.specs.declared.limits.TheConstants.{MAX_NAME}
 use Rattle.wf_model.specs.Names.{is_word_char}
 use Rattle.wf_codec.specs.declared.fault.Misfit.{Misfit}
 use Rattle.wf_codec.specs.declared.fault.Misfit.TheVariants.{Short, Bad}
 use Rattle.wf_codec.specs.declared.record.JournalRecord.{JournalRecord}
 use Rattle.wf_codec.specs.declared.record.JournalRecord.TheVariants.{Head, Admit, Turn}
-use Rattle.wf_codec.specs.Spelling.{two, four, eight, outer_text, spelling_of}
-use Rattle.wf_codec.specs.Ranges.{Ascend, IsOuter, IsHeldOuter, IsInRange, IsHeld}
-use Rattle.wf_codec.specs.Reading.{◌>>=◌, byte_in, number_in, items_at}
+use Rattle.wf_codec.specs.declared.record.TheConstants.{HEAD, ADMIT, TURN}
+use Rattle.wf_codec.specs.Spelling.{two, four, eight, outer_spelling, spelling_of}
+use Rattle.wf_codec.specs.Ranges.{chart_numbers, any_numbers, Ascend, IsOuter, IsHeldOuter, IsInRange, IsHeld}
+use Rattle.wf_codec.specs.Reading.{◌>>=◌, byte_in, number_in, eight_at, items_at, bytes_that}
 use Rattle.wf_codec.specs.Fields.{outer_at, update_at}
 
 -- a letter, a digit, `_` or `-`
@@ -21,10 +22,10 @@ is_head_char c = is_word_char c || (c == 45)
 abbrev pub named : List ℕ → List ℕ
 named cs = length cs ∷ cs
 
-unfoldable pub record_text : JournalRecord → List ℕ
-record_text (Head version chart unit) = 72 ∷ version ∷ named chart ++ named unit
-record_text (Admit request outer) = 65 ∷ eight request ++ outer_text outer
-record_text (Turn step inputs sealed) = 84 ∷ four step ++ (length inputs ∷ flat_map spelling_of inputs ++ two sealed)
+unfoldable pub record_spelling : JournalRecord → List ℕ
+record_spelling (Head version chart unit) = HEAD ∷ version ∷ named chart ++ named unit
+record_spelling (Admit request outer) = ADMIT ∷ eight request ++ outer_spelling outer
+record_spelling (Turn step inputs sealed) = TURN ∷ four step ++ (length inputs ∷ flat_map spelling_of inputs ++ two sealed)
 
 -- 1 to 32 characters that a head may have
 abbrev pub IsHeadName : List ℕ → Type 0
@@ -33,7 +34,7 @@ IsHeadName cs = (1 ≤ length cs) × (length cs ≤ MAX_NAME) × IsTrue (list_al
 -- each field is in its range: a head has version 1, and a turn the updates of different units, in their order
 abbrev pub IsRecordInRange : JournalRecord → Type 0
 IsRecordInRange (Head version chart unit) = (version ≡ 1) × IsHeadName chart × IsHeadName unit
-IsRecordInRange (Admit request outer) = IsOuter (2 ^ 16) outer
+IsRecordInRange (Admit request outer) = IsOuter any_numbers outer
 IsRecordInRange (Turn step inputs sealed) = AllByRecursion IsInRange inputs × Ascend (λ u. u.from.0) inputs × (sealed < 2 ^ 16)
 
 -- what the types keep of each record that a program holds
@@ -46,14 +47,10 @@ IsHeldRecord (Turn step inputs sealed) = (step < 2 ^ 32) × AllByRecursion IsHel
 abbrev pub IsRecord : JournalRecord → Type 0
 IsRecord r = IsRecordInRange r × IsHeldRecord r
 
-unfoldable pub head_char_at : Option ℕ → List ℕ → Result (ℕ × List ℕ) Misfit
-head_char_at before [] = Err Short
-head_char_at before (c ∷ rest) = if is_head_char c then Ok (c, rest) else Err (Bad (suc (length rest)))
-
 unfoldable pub head_name_at : List ℕ → Result (List ℕ × List ℕ) Misfit
 head_name_at bytes = do
   len ← byte_in 1 (MAX_NAME + 1) bytes
-  items_at head_char_at len.0 None len.1
+  bytes_that is_head_char len.0 len.1
 
 unfoldable pub head_at : List ℕ → Result (JournalRecord × List ℕ) Misfit
 head_at bytes = do
@@ -64,22 +61,22 @@ head_at bytes = do
 
 unfoldable pub admit_at : List ℕ → Result (JournalRecord × List ℕ) Misfit
 admit_at bytes = do
-  request ← number_in w64 0 (2 ^ 64) bytes
-  outer ← outer_at (2 ^ 16) None request.1
+  request ← eight_at bytes
+  outer ← outer_at any_numbers None request.1
   Ok (Admit request.0 outer.0, outer.1)
 
 unfoldable pub turn_at : List ℕ → Result (JournalRecord × List ℕ) Misfit
 turn_at bytes = do
   step ← number_in w32 0 (2 ^ 32) bytes
   count ← byte_in 0 256 step.1
-  inputs ← items_at (update_at MAX_UNITS) count.0 None count.1
+  inputs ← items_at (update_at chart_numbers) count.0 None count.1
   sealed ← number_in w16 0 (2 ^ 16) inputs.1
   Ok (Turn step.0 inputs.0 sealed.0, sealed.1)
 
 -- a record at the front of the bytes, by its tag
 unfoldable pub record_at : List ℕ → Result (JournalRecord × List ℕ) Misfit
 record_at [] = Err Short
-record_at (tag ∷ rest) = if tag == 72 then head_at rest else (if tag == 65 then admit_at rest else (if tag == 84 then turn_at rest else Err (Bad (suc (length rest)))))
+record_at (tag ∷ rest) = if tag == HEAD then head_at rest else (if tag == ADMIT then admit_at rest else (if tag == TURN then turn_at rest else Err (Bad (suc (length rest)))))
 
 -- the record that is the whole body
 abbrev pub whole : Result (JournalRecord × List ℕ) Misfit → Option JournalRecord

@@ -13,6 +13,9 @@ use Rattle.wf_model.specs.declared.outer.Outer.TheVariants.{Happen, Complete}
 use Rattle.wf_model.specs.declared.update.Write.{Write}
 use Rattle.wf_model.specs.declared.update.StartAt.{StartAt}
 use Rattle.wf_model.specs.declared.update.Update.{Update}
+use Rattle.wf_codec.specs.declared.value.TheConstants.{BOOL, INT, TEXT}
+use Rattle.wf_codec.specs.declared.outer.TheConstants.{HAPPEN, COMPLETE}
+use Rattle.wf_codec.specs.declared.update.TheConstants.{TAG}
 
 -- a number of two, four and eight bytes
 abbrev pub two : ℕ → List ℕ
@@ -30,40 +33,40 @@ truth false = 0
 truth true = 1
 
 -- its sort, and then the truth, eight bytes in two's complement, or a length and the characters
-unfoldable pub value_text : Val → List ℕ
-value_text (v.Bool b) = 0 ∷ truth b ∷ []
-value_text (v.Int z) = 1 ∷ eight (cast_unsigned w64 z)
-value_text (v.Text cs) = 2 ∷ length cs ∷ cs
+unfoldable pub value_spelling : Val → List ℕ
+value_spelling (v.Bool b) = BOOL ∷ truth b ∷ []
+value_spelling (v.Int z) = INT ∷ eight (cast_unsigned w64 z)
+value_spelling (v.Text cs) = TEXT ∷ length cs ∷ cs
 
-abbrev pub state_text : StateId → List ℕ
-state_text s = two s.0
+abbrev pub state_spelling : StateId → List ℕ
+state_spelling s = two s.0
 
-abbrev pub event_text : EventId → List ℕ
-event_text e = two e.0
+abbrev pub event_spelling : EventId → List ℕ
+event_spelling e = two e.0
 
-abbrev pub trans_text : TransId → List ℕ
-trans_text t = two t.0
+abbrev pub trans_spelling : TransId → List ℕ
+trans_spelling t = two t.0
 
-abbrev pub write_text : Write → List ℕ
-write_text w = two w.var.0 ++ (two w.trans.0 ++ value_text w.val)
+abbrev pub write_spelling : Write → List ℕ
+write_spelling w = two w.var.0 ++ (two w.trans.0 ++ value_spelling w.val)
 
-abbrev pub start_text : StartAt → List ℕ
-start_text s = two s.act.0 ++ (two s.trans.0 ++ s.place ∷ [])
+abbrev pub start_spelling : StartAt → List ℕ
+start_spelling s = two s.act.0 ++ (two s.trans.0 ++ s.place ∷ [])
 
-abbrev pub output_text : Output → List ℕ
-output_text o = two o.var.0 ++ value_text o.val
+abbrev pub output_spelling : Output → List ℕ
+output_spelling o = two o.var.0 ++ value_spelling o.val
 
--- 0 and an event; or 1, an item, its activity and the outputs behind their number
-unfoldable pub outer_text : Outer → List ℕ
-outer_text (Happen e) = 0 ∷ two e.0
-outer_text (Complete item act outputs) = 1 ∷ four item ++ (two act.0 ++ length outputs ∷ flat_map output_text outputs)
+-- its kind, and an event; or its kind, an item, its activity and the outputs behind their number
+unfoldable pub outer_spelling : Outer → List ℕ
+outer_spelling (Happen e) = HAPPEN ∷ two e.0
+outer_spelling (Complete item act outputs) = COMPLETE ∷ four item ++ (two act.0 ++ length outputs ∷ flat_map output_spelling outputs)
 
 -- how many there are, and then each
 abbrev pub listed : {A : Type 0} → (A → List ℕ) → List A → List ℕ
-listed text xs = two (length xs) ++ flat_map text xs
+listed spelling xs = two (length xs) ++ flat_map spelling xs
 
 -- the tag, who tells it of which step, and what changes
 unfoldable pub spelling_of : Update → List ℕ
 spelling_of u =
-    85 ∷ u.from.0 ∷ four u.step ++ (listed state_text u.flips ++ (listed write_text u.writes ++ (listed event_text u.raised
-    ++ (listed start_text u.starts ++ (listed trans_text u.fired ++ listed outer_text u.outer)))))
+    TAG ∷ u.from.0 ∷ four u.step ++ (listed state_spelling u.flips ++ (listed write_spelling u.writes ++ (listed event_spelling u.raised
+    ++ (listed start_spelling u.starts ++ (listed trans_spelling u.fired ++ listed outer_spelling u.outer)))))

@@ -1,29 +1,37 @@
 //! The entries of an update's lists.
 ghost use Rattle.std.specs.Prelude.{◌≡◌, option_copied};
+ghost use Rattle.std.specs.Int.{w16};
+ghost use Rattle.wf_codec.specs.Reading.{Reads, number_in, least_after as least_number};
 ghost use Rattle.wf_codec.specs.Fields as spec;
 
 use crate::fault::FieldFault;
-use crate::field::{least_after, u8_in, u16_in};
+use crate::field::{Numbers, least_after, u8_in, u16_in};
 use crate::item::Read;
 use crate::value::value_of;
 use std::alloc::Global;
-use wf_model::limits::{MAX_ACTIONS, MAX_TRANSITIONS};
+use wf_model::limits::{MAX_ACTIONS, MAX_STATES, MAX_TRANSITIONS};
 use wf_model::{ActId, EventId, StartAt, StateId, TransId, VarId, Write};
+
+/// A number of two bytes over the one before it, if there is one, and below `limit`.
+fn number_after(before: Option<u32>, limit: u32, bytes: &[u8]) -> Result<(u32, &[u8]), FieldFault>
+    ensures { Reads result (number_in w16 (least_number (λ n. n) before) limit bytes.now) }
+{
+    u16_in(bytes, least_after(before), u64::from(limit))
+}
 
 impl Read for StateId {
     ghost use Rattle.wf_codec.specs.Fields.{state_at};
 
-    ghost reading = { state_at };
+    ghost reading = { λ _. state_at };
 
     #[tactic(auto, unfolding(crate::specs::Fields::state_at))]
     fn read<'a>(
         _alloc: Global,
-        limit: u32,
+        _numbers: Numbers,
         before: Option<&StateId>,
         bytes: &'a [u8],
     ) -> Result<(StateId, &'a [u8]), FieldFault> {
-        let least = least_after(before.map(|state| state.0));
-        let (number, rest) = u16_in(bytes, least, u64::from(limit))?;
+        let (number, rest) = number_after(before.map(|state| state.0), MAX_STATES as u32, bytes)?;
         Ok((StateId(number), rest))
     }
 }
@@ -36,12 +44,11 @@ impl Read for EventId {
     #[tactic(auto, unfolding(crate::specs::Fields::event_at))]
     fn read<'a>(
         _alloc: Global,
-        limit: u32,
+        numbers: Numbers,
         before: Option<&EventId>,
         bytes: &'a [u8],
     ) -> Result<(EventId, &'a [u8]), FieldFault> {
-        let least = least_after(before.map(|event| event.0));
-        let (number, rest) = u16_in(bytes, least, u64::from(limit))?;
+        let (number, rest) = number_after(before.map(|event| event.0), numbers.events, bytes)?;
         Ok((EventId(number), rest))
     }
 }
@@ -49,17 +56,20 @@ impl Read for EventId {
 impl Read for TransId {
     ghost use Rattle.wf_codec.specs.Fields.{trans_at};
 
-    ghost reading = { trans_at };
+    ghost reading = { λ _. trans_at };
 
     #[tactic(auto, unfolding(crate::specs::Fields::trans_at))]
     fn read<'a>(
         _alloc: Global,
-        limit: u32,
+        _numbers: Numbers,
         before: Option<&TransId>,
         bytes: &'a [u8],
     ) -> Result<(TransId, &'a [u8]), FieldFault> {
-        let least = least_after(before.map(|trans| trans.0));
-        let (number, rest) = u16_in(bytes, least, u64::from(limit))?;
+        let (number, rest) = number_after(
+            before.map(|trans| trans.0),
+            MAX_TRANSITIONS as u32,
+            bytes,
+        )?;
         Ok((TransId(number), rest))
     }
 }
@@ -72,12 +82,11 @@ impl Read for Write {
     #[tactic(auto, unfolding(crate::specs::Fields::write_at))]
     fn read<'a>(
         _alloc: Global,
-        limit: u32,
+        numbers: Numbers,
         before: Option<&Write>,
         bytes: &'a [u8],
     ) -> Result<(Write, &'a [u8]), FieldFault> {
-        let least = least_after(before.map(|write| write.var.0));
-        let (var, rest) = u16_in(bytes, least, u64::from(limit))?;
+        let (var, rest) = number_after(before.map(|write| write.var.0), numbers.vars, bytes)?;
         let (trans, rest) = u16_in(rest, 0, MAX_TRANSITIONS as u64)?;
         let var = VarId(var);
         let trans = TransId(trans);
@@ -117,11 +126,11 @@ impl Read for StartAt {
     #[tactic(auto, unfolding(crate::specs::Fields::start_at))]
     fn read<'a>(
         _alloc: Global,
-        limit: u32,
+        numbers: Numbers,
         before: Option<&StartAt>,
         bytes: &'a [u8],
     ) -> Result<(StartAt, &'a [u8]), FieldFault> {
-        let (act, rest) = u16_in(bytes, 0, u64::from(limit))?;
+        let (act, rest) = u16_in(bytes, 0, u64::from(numbers.acts))?;
         let (trans, rest) = u16_in(rest, least_trans(before), MAX_TRANSITIONS as u64)?;
         let (place, rest) = u8_in(rest, least_place(before, trans), MAX_ACTIONS as u64)?;
         let act = ActId(act);

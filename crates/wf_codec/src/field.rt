@@ -1,12 +1,38 @@
 //! Fields of numbers. Each is `Short` where the bytes end before it does, and `Bad` where it isn't in its range.
-ghost use Rattle.std.specs.Prelude.{◌≡◌, ◌^◌, length};
-ghost use Rattle.std.specs.Int.{w16, w32, w64};
-ghost use Rattle.wf_codec.specs.Reading.{Gives, byte_in, number_in};
+ghost use Rattle.std.specs.Prelude.{◌≡◌, length};
+ghost use Rattle.std.specs.Int.{w16, w32};
+ghost use Rattle.wf_codec.specs.Reading.{Reads, byte_in, number_in, eight_at};
 ghost use Rattle.wf_codec.specs.Reading as spec;
 ghost use Rattle.wf_codec.specs.declared.fault.Misfit.TheVariants.{Bad};
 ghost use Rattle.wf_codec.specs.declared.fault.FieldFault.TheVariants as fault;
 
 use crate::fault::{FieldFault, Misfit};
+use wf_model::limits::{MAX_ACTS, MAX_EVENTS, MAX_VARS};
+
+/// Above each number that two bytes can spell.
+pub const ANY_NUMBER: u32 = 1 << 16;
+
+/// What the numbers of events, of activities and of variables are below.
+#[derive(Clone, Copy)]
+pub struct Numbers {
+    pub events: u32,
+    pub acts: u32,
+    pub vars: u32,
+}
+
+/// Those of a chart.
+pub const CHART_NUMBERS: Numbers = Numbers {
+    events: MAX_EVENTS as u32,
+    acts: MAX_ACTS as u32,
+    vars: MAX_VARS as u32,
+};
+
+/// Any that two bytes can spell.
+pub const ANY_NUMBERS: Numbers = Numbers {
+    events: ANY_NUMBER,
+    acts: ANY_NUMBER,
+    vars: ANY_NUMBER,
+};
 
 /// The fault of a field that begins these bytes and isn't in its range.
 pub fn bad(bytes: &[u8]) -> FieldFault
@@ -26,9 +52,9 @@ pub fn least_after(before: Option<u32>) -> u64
 }
 
 /// One byte, from `least` on and below `limit`.
-#[tactic(auto, unfolding(crate::specs::Reading::byte_in))]
+#[tactic(auto, unfolding(crate::specs::Reading::byte_in, crate::specs::Reading::byte_that))]
 pub fn u8_in(bytes: &[u8], least: u64, limit: u64) -> Result<(u8, &[u8]), FieldFault>
-    ensures { Gives (λ x. (x.0, x.1.now)) result (byte_in least limit bytes.now) }
+    ensures { Reads result (byte_in least limit bytes.now) }
 {
     match bytes {
         [] => Err(FieldFault::Misfit(Misfit::Short)),
@@ -46,7 +72,7 @@ pub fn u8_in(bytes: &[u8], least: u64, limit: u64) -> Result<(u8, &[u8]), FieldF
 /// A number of two bytes, from `least` on and below `limit`.
 #[tactic(auto, unfolding(crate::specs::Reading::number_in))]
 pub fn u16_in(bytes: &[u8], least: u64, limit: u64) -> Result<(u32, &[u8]), FieldFault>
-    ensures { Gives (λ x. (x.0, x.1.now)) result (number_in w16 least limit bytes.now) }
+    ensures { Reads result (number_in w16 least limit bytes.now) }
 {
     if bytes.len() < 2 {
         return Err(FieldFault::Misfit(Misfit::Short));
@@ -64,7 +90,7 @@ pub fn u16_in(bytes: &[u8], least: u64, limit: u64) -> Result<(u32, &[u8]), Fiel
 /// A number of four bytes, from `least` on and below `limit`.
 #[tactic(auto, unfolding(crate::specs::Reading::number_in))]
 pub fn u32_in(bytes: &[u8], least: u64, limit: u64) -> Result<(u32, &[u8]), FieldFault>
-    ensures { Gives (λ x. (x.0, x.1.now)) result (number_in w32 least limit bytes.now) }
+    ensures { Reads result (number_in w32 least limit bytes.now) }
 {
     if bytes.len() < 4 {
         return Err(FieldFault::Misfit(Misfit::Short));
@@ -80,9 +106,9 @@ pub fn u32_in(bytes: &[u8], least: u64, limit: u64) -> Result<(u32, &[u8]), Fiel
 }
 
 /// A number of eight bytes.
-#[tactic(auto, unfolding(crate::specs::Reading::number_in))]
+#[tactic(auto, unfolding(crate::specs::Reading::eight_at))]
 pub fn u64_of(bytes: &[u8]) -> Result<(u64, &[u8]), FieldFault>
-    ensures { Gives (λ x. (x.0, x.1.now)) result (number_in w64 0 (2 ^ 64) bytes.now) }
+    ensures { Reads result (eight_at bytes.now) }
 {
     if bytes.len() < 8 {
         return Err(FieldFault::Misfit(Misfit::Short));

@@ -1,5 +1,5 @@
 //! Laws of the answers to bytes: which are final, and where they come.
-ghost use Rattle.wf_codec.specs.Finality.{AnswerIsFinal, FaultIsFirst, FrontIsShort, ShortGoesOn};
+ghost use Rattle.wf_codec.specs.Finality.{AnswerIsFinal, FaultIsFirst, FrontIsShort, FaultComesAtOnce};
 
 /// An answer other than `Short` is final: it stays the same, whatever bytes come behind.
 pub fn answer_is_final()
@@ -17,7 +17,8 @@ pub fn front_is_short()
     ensures { FrontIsShort }
 {}
 
-/// Bytes that are `Short` can still come to another answer: there are bytes that give one when they stand behind.
-pub fn short_goes_on()
-    ensures { ShortGoesOn }
+/// A bad field is told as soon as its bytes are there. It has at most four bytes, so the front part that ends four bytes behind its first
+/// has the same answer as all of the bytes.
+pub fn fault_comes_at_once()
+    ensures { FaultComesAtOnce }
 {}

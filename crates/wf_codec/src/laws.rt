@@ -1,11 +1,13 @@
 //! Laws of the spellings of updates and of records. Each public function is a law and has nothing to do.
-ghost use Rattle.std.specs.Prelude.{◌≡◌, ◌++◌, ℕ, List, Ok, Some, length};
+ghost use Rattle.std.specs.Prelude.{◌≡◌, ◌≤◌, ◌++◌, ℕ, List, Ok, Some, length};
 ghost use Rattle.wf_codec.specs.Spelling.{spelling_of};
 ghost use Rattle.wf_codec.specs.Ranges.{IsUpdate};
 ghost use Rattle.wf_codec.specs.Fields.{decoded};
-ghost use Rattle.wf_codec.specs.Records.{record_text, record_at, record_of, IsRecord};
+ghost use Rattle.wf_codec.specs.Records.{record_spelling, record_at, record_of, IsRecord};
 ghost use Rattle.wf_codec.specs.declared.record.JournalRecord.{JournalRecord as RecordValue};
 ghost use Rattle.wf_model.specs.declared.update.Update.{Update as UpdateValue};
+
+use crate::room::MAX_SPELLING;
 
 /// Each update has a spelling of its own: where the same bytes begin with the spellings of two updates, the two are one, and so is what
 /// follows. So no spelling begins another's.
@@ -18,14 +20,19 @@ pub fn spelled_is_decoded()
     ensures { (update : UpdateValue) (rest : List ℕ) → IsUpdate update → decoded (spelling_of update ++ rest) ≡ Ok (update, length (spelling_of update)) }
 {}
 
+/// No spelling of an update is longer than `MAX_SPELLING` bytes.
+pub fn spelling_is_short()
+    ensures { (update : UpdateValue) → IsUpdate update → length (spelling_of update) ≤ MAX_SPELLING }
+{}
+
 /// Each record has a body of its own, which begins no other's: where the same bytes begin with the bodies of two records, the two are
 /// one, and so is what follows.
 pub fn one_record()
-    ensures { (a b : RecordValue) (x y : List ℕ) → IsRecord a → IsRecord b → record_text a ++ x ≡ record_text b ++ y → (a ≡ b) × (x ≡ y) }
+    ensures { (a b : RecordValue) (x y : List ℕ) → IsRecord a → IsRecord b → record_spelling a ++ x ≡ record_spelling b ++ y → (a ≡ b) × (x ≡ y) }
 {}
 
 /// The body of a record is read as that record; and where bytes follow it, the record is read from their front and they are left.
 pub fn record_is_decoded()
-    ensures whole { (entry : RecordValue) → IsRecord entry → record_of (record_text entry) ≡ Some entry }
-    ensures front { (entry : RecordValue) (rest : List ℕ) → IsRecord entry → record_at (record_text entry ++ rest) ≡ Ok (entry, rest) }
+    ensures whole { (entry : RecordValue) → IsRecord entry → record_of (record_spelling entry) ≡ Some entry }
+    ensures front { (entry : RecordValue) (rest : List ℕ) → IsRecord entry → record_at (record_spelling entry ++ rest) ≡ Ok (entry, rest) }
 {}

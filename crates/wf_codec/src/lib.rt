@@ -20,9 +20,12 @@ mod update;
 mod value;
 
 pub use fault::{CodecFault, RecordFault};
-pub use finality::{answer_is_final, fault_is_first, front_is_short, short_goes_on};
-pub use laws::{one_record, one_spelling, record_is_decoded, spelled_is_decoded};
+pub use finality::{answer_is_final, fault_comes_at_once, fault_is_first, front_is_short};
+pub use laws::{
+    one_record, one_spelling, record_is_decoded, spelled_is_decoded, spelling_is_short,
+};
 pub use record::{JournalRecord, decode_record, encode_record};
+pub use room::MAX_SPELLING;
 pub use update::{decode, encode};
 
 #[cfg(test)]

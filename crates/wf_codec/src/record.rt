@@ -1,18 +1,17 @@
 //! Records of a journal as bytes.
 ghost use Rattle.std.specs.Prelude.{◌≡◌, Some, IfOk, IsErrOf};
-ghost use Rattle.wf_codec.specs.Reading.{Gives};
-ghost use Rattle.wf_codec.specs.Records.{record_text, head_at, admit_at, turn_at, record_at, record_of, IsRecord, IsRecordInRange};
+ghost use Rattle.wf_codec.specs.Reading.{Reads};
+ghost use Rattle.wf_codec.specs.Records.{record_spelling, head_at, admit_at, turn_at, record_at, record_of, IsRecord, IsRecordInRange};
 ghost use Rattle.wf_codec.specs.Answers.{AnswersRecord};
 ghost use Rattle.wf_codec.specs.declared.record.JournalRecord.{JournalRecord as RecordValue};
 
 use crate::fault::{FieldFault, Misfit, RecordFault};
-use crate::field::{bad, u8_in, u16_in, u32_in, u64_of};
+use crate::field::{ANY_NUMBER, ANY_NUMBERS, CHART_NUMBERS, bad, u8_in, u16_in, u32_in, u64_of};
 use crate::head::head_name_of;
 use crate::item::{Read, items_of};
 use crate::room::record_room;
 use crate::spelling::spell_whole;
 use std::alloc::Global;
-use wf_model::limits::MAX_UNITS;
 use wf_model::{Bytes, List, Name, NoMemory, Outer, Update};
 
 /// The first byte of a head.
@@ -49,7 +48,7 @@ pub enum JournalRecord {
 /// The one spelling of a record whose fields are in their ranges. Linear in its bytes.
 pub fn encode_record(alloc: Global, entry: &JournalRecord) -> Result<Bytes, NoMemory>
     requires { IsRecordInRange entry.now }
-    ensures { IfOk result (λ bytes. bytes ≡ record_text entry.now) }
+    ensures { IfOk result (λ bytes. bytes ≡ record_spelling entry.now) }
 {
     spell_whole(alloc, record_room(entry), entry)
 }
@@ -59,9 +58,9 @@ pub fn encode_record(alloc: Global, entry: &JournalRecord) -> Result<Bytes, NoMe
 /// `NotRecord` comes exactly where no record has it.
 pub fn decode_record(alloc: Global, body: &[u8]) -> Result<JournalRecord, RecordFault>
     // What is read has this body.
-    ensures found { IfOk result (λ r. IsRecord r × (body.now ≡ record_text r)) }
+    ensures found { IfOk result (λ r. IsRecord r × (body.now ≡ record_spelling r)) }
     // What has this body is read, unless memory runs out.
-    ensures only { (r : RecordValue) → IsRecord r → body.now ≡ record_text r → AnswersRecord result (Some r) }
+    ensures only { (r : RecordValue) → IsRecord r → body.now ≡ record_spelling r → AnswersRecord result (Some r) }
     // Which answer it is.
     ensures exact { AnswersRecord result (record_of body.now) }
 {
@@ -84,7 +83,7 @@ fn whole_record(alloc: Global, body: &[u8]) -> Result<JournalRecord, RecordFault
 /// A record, by its first byte.
 #[tactic(auto, unfolding(crate::specs::Records::record_at))]
 fn first_record(alloc: Global, bytes: &[u8]) -> Result<(JournalRecord, &[u8]), FieldFault>
-    ensures { Gives (λ x. (x.0, x.1.now)) result (record_at bytes.now) }
+    ensures { Reads result (record_at bytes.now) }
 {
     match bytes {
         [] => Err(FieldFault::Misfit(Misfit::Short)),
@@ -98,7 +97,7 @@ fn first_record(alloc: Global, bytes: &[u8]) -> Result<(JournalRecord, &[u8]), F
 /// A head behind its first byte.
 #[tactic(auto, unfolding(crate::specs::Records::head_at))]
 fn head_of(alloc: Global, bytes: &[u8]) -> Result<(JournalRecord, &[u8]), FieldFault>
-    ensures { Gives (λ x. (x.0, x.1.now)) result (head_at bytes.now) }
+    ensures { Reads result (head_at bytes.now) }
 {
     let (version, rest) = u8_in(bytes, 1, 2)?;
     let (chart, rest) = head_name_of(alloc, rest)?;
@@ -116,22 +115,22 @@ fn head_of(alloc: Global, bytes: &[u8]) -> Result<(JournalRecord, &[u8]), FieldF
 /// An admission behind its first byte.
 #[tactic(auto, unfolding(crate::specs::Records::admit_at))]
 fn admit_of(alloc: Global, bytes: &[u8]) -> Result<(JournalRecord, &[u8]), FieldFault>
-    ensures { Gives (λ x. (x.0, x.1.now)) result (admit_at bytes.now) }
+    ensures { Reads result (admit_at bytes.now) }
 {
     let (request, rest) = u64_of(bytes)?;
-    let (outer, rest) = Outer::read(alloc, 1 << 16, None, rest)?;
+    let (outer, rest) = Outer::read(alloc, ANY_NUMBERS, None, rest)?;
     Ok((JournalRecord::Admit { request, outer }, rest))
 }
 
 /// A turn behind its first byte.
 #[tactic(auto, unfolding(crate::specs::Records::turn_at))]
 fn turn_of(alloc: Global, bytes: &[u8]) -> Result<(JournalRecord, &[u8]), FieldFault>
-    ensures { Gives (λ x. (x.0, x.1.now)) result (turn_at bytes.now) }
+    ensures { Reads result (turn_at bytes.now) }
 {
     let (step, rest) = u32_in(bytes, 0, 1 << 32)?;
     let (count, rest) = u8_in(rest, 0, 256)?;
-    let (inputs, rest) = items_of(alloc, MAX_UNITS as u32, u32::from(count), rest)?;
-    let (sealed, rest) = u16_in(rest, 0, 1 << 16)?;
+    let (inputs, rest) = items_of(alloc, CHART_NUMBERS, u32::from(count), rest)?;
+    let (sealed, rest) = u16_in(rest, 0, u64::from(ANY_NUMBER))?;
     Ok((
         JournalRecord::Turn {
             step,

@@ -2,19 +2,21 @@
 ghost use Rattle.std.specs.Prelude.{◌≡◌, ◌++◌, ◌∷◌, [], ◌<◌, ◌^◌, OnOk, length};
 ghost use Rattle.std.specs.List.{flat_map, AllByRecursion};
 ghost use Rattle.wf_model.specs.declared.limits.TheConstants.{MAX_EVENTS, MAX_STATES, MAX_TRANSITIONS};
-ghost use Rattle.wf_codec.specs.Spelling.{two, four, state_text, event_text, trans_text, value_text, write_text, start_text, output_text, outer_text, spelling_of};
-ghost use Rattle.wf_codec.specs.Parts.{changes_text, doings_text};
-ghost use Rattle.wf_codec.specs.Ranges.{IsWrite, IsStart, IsOuter, IsInRange};
+ghost use Rattle.wf_codec.specs.Spelling.{two, four, state_spelling, event_spelling, trans_spelling, value_spelling, write_spelling, start_spelling, output_spelling, outer_spelling, spelling_of};
+ghost use Rattle.wf_codec.specs.Parts.{changes_spelling, rest_spelling};
+ghost use Rattle.wf_codec.specs.Ranges.{any_numbers, IsWrite, IsStart, IsOuter, IsInRange};
 
 use crate::number::{spell_four, spell_two};
+use crate::outer::{COMPLETE, HAPPEN};
 use crate::spelling::{Spell, spell_items, spell_list};
 use crate::update::TAG;
+use crate::value::{BOOL, INT, TEXT};
 use wf_model::{
     ActId, EventId, NoMemory, Outer, Output, StartAt, StateId, TransId, Update, Val, Write,
 };
 
 impl Spell for StateId {
-    ghost text = { state_text };
+    ghost spelling = { state_spelling };
 
     ghost fits = { λ s. s.0 < MAX_STATES };
 
@@ -24,7 +26,7 @@ impl Spell for StateId {
 }
 
 impl Spell for EventId {
-    ghost text = { event_text };
+    ghost spelling = { event_spelling };
 
     ghost fits = { λ e. e.0 < MAX_EVENTS };
 
@@ -34,7 +36,7 @@ impl Spell for EventId {
 }
 
 impl Spell for TransId {
-    ghost text = { trans_text };
+    ghost spelling = { trans_spelling };
 
     ghost fits = { λ t. t.0 < MAX_TRANSITIONS };
 
@@ -44,20 +46,20 @@ impl Spell for TransId {
 }
 
 impl Spell for Val {
-    ghost text = { value_text };
+    ghost spelling = { value_spelling };
 
     ghost fits = { λ _. Unit {0} };
 
-    #[tactic(auto, unfolding(crate::specs::Spelling::value_text))]
+    #[tactic(auto, unfolding(crate::specs::Spelling::value_spelling))]
     fn spell(&self, bytes: &mut Vec<u8>) -> Result<(), NoMemory> {
         match self {
-            Val::Bool(truth) => bytes.extend_from_slice(&[0, u8::from(*truth)])?,
+            Val::Bool(truth) => bytes.extend_from_slice(&[BOOL, u8::from(*truth)])?,
             Val::Int(number) => {
-                bytes.push(1)?;
+                bytes.push(INT)?;
                 bytes.extend_from_slice(&number.to_be_bytes())?;
             }
             Val::Text(text) => {
-                bytes.extend_from_slice(&[2, text.len() as u8])?;
+                bytes.extend_from_slice(&[TEXT, text.len() as u8])?;
                 bytes.extend_from_slice(text.as_slice())?;
             }
         }
@@ -66,7 +68,7 @@ impl Spell for Val {
 }
 
 impl Spell for Write {
-    ghost text = { write_text };
+    ghost spelling = { write_spelling };
 
     ghost fits = { IsWrite };
 
@@ -78,7 +80,7 @@ impl Spell for Write {
 }
 
 impl Spell for StartAt {
-    ghost text = { start_text };
+    ghost spelling = { start_spelling };
 
     ghost fits = { IsStart };
 
@@ -91,7 +93,7 @@ impl Spell for StartAt {
 }
 
 impl Spell for Output {
-    ghost text = { output_text };
+    ghost spelling = { output_spelling };
 
     ghost fits = { λ o. o.var.0 < 2 ^ 16 };
 
@@ -104,9 +106,9 @@ impl Spell for Output {
 /// Adds an event that happens.
 fn spell_happening(event: EventId, bytes: &mut Vec<u8>) -> Result<(), NoMemory>
     requires { event.0 < 2 ^ 16 }
-    ensures { OnOk result (bytes.new.items ≡ bytes.old.items ++ 0 ∷ two event.0) }
+    ensures { OnOk result (bytes.new.items ≡ bytes.old.items ++ HAPPEN ∷ two event.0) }
 {
-    bytes.push(0)?;
+    bytes.push(HAPPEN)?;
     spell_two(event.0, bytes)
 }
 
@@ -120,9 +122,9 @@ fn spell_completion(
     requires act { act.0 < 2 ^ 16 }
     requires count { length outputs.now < 256 }
     requires each { AllByRecursion (λ o. o.var.0 < 2 ^ 16) outputs.now }
-    ensures { OnOk result (bytes.new.items ≡ bytes.old.items ++ 1 ∷ four item ++ (two act.0 ++ length outputs.now ∷ flat_map output_text outputs.now)) }
+    ensures { OnOk result (bytes.new.items ≡ bytes.old.items ++ COMPLETE ∷ four item ++ (two act.0 ++ length outputs.now ∷ flat_map output_spelling outputs.now)) }
 {
-    bytes.push(1)?;
+    bytes.push(COMPLETE)?;
     spell_four(item, bytes)?;
     spell_two(act.0, bytes)?;
     bytes.push(outputs.len() as u8)?;
@@ -130,11 +132,11 @@ fn spell_completion(
 }
 
 impl Spell for Outer {
-    ghost text = { outer_text };
+    ghost spelling = { outer_spelling };
 
-    ghost fits = { IsOuter (2 ^ 16) };
+    ghost fits = { IsOuter any_numbers };
 
-    #[tactic(auto, unfolding(crate::specs::Spelling::outer_text))]
+    #[tactic(auto, unfolding(crate::specs::Spelling::outer_spelling))]
     fn spell(&self, bytes: &mut Vec<u8>) -> Result<(), NoMemory> {
         match self {
             Outer::Happen(event) => spell_happening(*event, bytes),
@@ -146,10 +148,10 @@ impl Spell for Outer {
 }
 
 /// Adds what an update changes at once: its states, its variables and the events that it raises.
-#[tactic(auto, unfolding(crate::specs::Parts::changes_text), using(crate::proofs::Fits::flips_few, crate::proofs::Fits::writes_few, crate::proofs::Fits::raised_few))]
+#[tactic(auto, unfolding(crate::specs::Parts::changes_spelling), using(crate::proofs::Fits::flips_few, crate::proofs::Fits::writes_few, crate::proofs::Fits::raised_few))]
 fn spell_changes(update: &Update, bytes: &mut Vec<u8>) -> Result<(), NoMemory>
     requires { IsInRange update.now }
-    ensures { OnOk result (bytes.new.items ≡ bytes.old.items ++ changes_text update.now) }
+    ensures { OnOk result (bytes.new.items ≡ bytes.old.items ++ changes_spelling update.now) }
 {
     spell_list(update.flips.as_slice(), bytes)?;
     spell_list(update.writes.as_slice(), bytes)?;
@@ -157,10 +159,10 @@ fn spell_changes(update: &Update, bytes: &mut Vec<u8>) -> Result<(), NoMemory>
 }
 
 /// Adds what an update starts, what fired, and the outers of the next step.
-#[tactic(auto, unfolding(crate::specs::Parts::doings_text), using(crate::proofs::Fits::outers_fit))]
-fn spell_doings(update: &Update, bytes: &mut Vec<u8>) -> Result<(), NoMemory>
+#[tactic(auto, unfolding(crate::specs::Parts::rest_spelling), using(crate::proofs::Fits::outers_fit))]
+fn spell_rest(update: &Update, bytes: &mut Vec<u8>) -> Result<(), NoMemory>
     requires { IsInRange update.now }
-    ensures { OnOk result (bytes.new.items ≡ bytes.old.items ++ doings_text update.now) }
+    ensures { OnOk result (bytes.new.items ≡ bytes.old.items ++ rest_spelling update.now) }
 {
     spell_list(update.starts.as_slice(), bytes)?;
     spell_list(update.fired.as_slice(), bytes)?;
@@ -168,7 +170,7 @@ fn spell_doings(update: &Update, bytes: &mut Vec<u8>) -> Result<(), NoMemory>
 }
 
 impl Spell for Update {
-    ghost text = { spelling_of };
+    ghost spelling = { spelling_of };
 
     ghost fits = { IsInRange };
 
@@ -176,6 +178,6 @@ impl Spell for Update {
         bytes.extend_from_slice(&[TAG, self.from.0 as u8])?;
         spell_four(self.step, bytes)?;
         spell_changes(self, bytes)?;
-        spell_doings(self, bytes)
+        spell_rest(self, bytes)
     }
 }

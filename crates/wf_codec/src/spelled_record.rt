@@ -2,9 +2,9 @@
 ghost use Rattle.std.specs.Prelude.{◌≡◌, ◌++◌, ◌∷◌, [], ◌<◌, ◌≤◌, ◌^◌, OnOk, length};
 ghost use Rattle.std.specs.List.{flat_map, AllByRecursion};
 ghost use Rattle.wf_model.specs.declared.limits.TheConstants.{MAX_NAME, MAX_UNITS};
-ghost use Rattle.wf_codec.specs.Spelling.{two, four, eight, outer_text, spelling_of};
-ghost use Rattle.wf_codec.specs.Ranges.{IsOuter, IsInRange};
-ghost use Rattle.wf_codec.specs.Records.{named, record_text, IsRecordInRange};
+ghost use Rattle.wf_codec.specs.Spelling.{two, four, eight, outer_spelling, spelling_of};
+ghost use Rattle.wf_codec.specs.Ranges.{any_numbers, IsOuter, IsInRange};
+ghost use Rattle.wf_codec.specs.Records.{named, record_spelling, IsRecordInRange};
 
 use crate::number::{spell_eight, spell_four, spell_two};
 use crate::record::{ADMIT, HEAD, JournalRecord, TURN};
@@ -26,7 +26,7 @@ fn spell_name(name: &Name, bytes: &mut Vec<u8>) -> Result<(), NoMemory>
 fn spell_head(version: u8, chart: &Name, unit: &Name, bytes: &mut Vec<u8>) -> Result<(), NoMemory>
     requires chart { length chart.now ≤ MAX_NAME }
     requires unit { length unit.now ≤ MAX_NAME }
-    ensures { OnOk result (bytes.new.items ≡ bytes.old.items ++ 72 ∷ version ∷ named chart.now ++ named unit.now) }
+    ensures { OnOk result (bytes.new.items ≡ bytes.old.items ++ HEAD ∷ version ∷ named chart.now ++ named unit.now) }
 {
     bytes.extend_from_slice(&[HEAD, version])?;
     spell_name(chart, bytes)?;
@@ -35,8 +35,8 @@ fn spell_head(version: u8, chart: &Name, unit: &Name, bytes: &mut Vec<u8>) -> Re
 
 /// Adds an admission.
 fn spell_admission(request: u64, outer: &Outer, bytes: &mut Vec<u8>) -> Result<(), NoMemory>
-    requires { IsOuter (2 ^ 16) outer.now }
-    ensures { OnOk result (bytes.new.items ≡ bytes.old.items ++ 65 ∷ eight request ++ outer_text outer.now) }
+    requires { IsOuter any_numbers outer.now }
+    ensures { OnOk result (bytes.new.items ≡ bytes.old.items ++ ADMIT ∷ eight request ++ outer_spelling outer.now) }
 {
     bytes.push(ADMIT)?;
     spell_eight(request, bytes)?;
@@ -53,7 +53,7 @@ fn spell_turn(
     requires count { length inputs.now ≤ MAX_UNITS }
     requires each { AllByRecursion IsInRange inputs.now }
     requires sealed { sealed < 2 ^ 16 }
-    ensures { OnOk result (bytes.new.items ≡ bytes.old.items ++ 84 ∷ four step ++ (length inputs.now ∷ flat_map spelling_of inputs.now ++ two sealed)) }
+    ensures { OnOk result (bytes.new.items ≡ bytes.old.items ++ TURN ∷ four step ++ (length inputs.now ∷ flat_map spelling_of inputs.now ++ two sealed)) }
 {
     bytes.push(TURN)?;
     spell_four(step, bytes)?;
@@ -63,11 +63,11 @@ fn spell_turn(
 }
 
 impl Spell for JournalRecord {
-    ghost text = { record_text };
+    ghost spelling = { record_spelling };
 
     ghost fits = { IsRecordInRange };
 
-    #[tactic(auto, unfolding(crate::specs::Records::record_text), using(crate::proofs::Fits::inputs_few))]
+    #[tactic(auto, unfolding(crate::specs::Records::record_spelling), using(crate::proofs::Fits::inputs_few))]
     fn spell(&self, bytes: &mut Vec<u8>) -> Result<(), NoMemory> {
         match self {
             JournalRecord::Head {

@@ -10,21 +10,21 @@ use wf_model::{Bytes, List, NoMemory};
 /// What has a spelling.
 pub trait Spell: Drop {
     /// Its bytes.
-    ghost text: { Self → Listed ℕ };
+    ghost spelling: { Self → Listed ℕ };
 
     /// Its numbers fit their fields.
     ghost fits: { Self → Type 0 };
 
-    /// Adds its bytes to a text.
+    /// Adds its spelling.
     fn spell(&self, bytes: &mut Vec<u8>) -> Result<(), NoMemory>
         requires { fits self.now }
-        ensures { OnOk result (bytes.new.items ≡ bytes.old.items ++ text self.now) };
+        ensures { OnOk result (bytes.new.items ≡ bytes.old.items ++ spelling self.now) };
 }
 
 /// Adds the bytes of each item.
 pub fn spell_items<T: Spell>(items: &[T], bytes: &mut Vec<u8>) -> Result<(), NoMemory>
     requires { AllByRecursion T.fits items.now }
-    ensures { OnOk result (bytes.new.items ≡ bytes.old.items ++ flat_map T.text items.now) }
+    ensures { OnOk result (bytes.new.items ≡ bytes.old.items ++ flat_map T.spelling items.now) }
 {
     for item in items {
         item.spell(bytes)?;
@@ -36,7 +36,7 @@ pub fn spell_items<T: Spell>(items: &[T], bytes: &mut Vec<u8>) -> Result<(), NoM
 pub fn spell_list<T: Spell>(items: &[T], bytes: &mut Vec<u8>) -> Result<(), NoMemory>
     requires count { length items.now < 2 ^ 16 }
     requires each { AllByRecursion T.fits items.now }
-    ensures { OnOk result (bytes.new.items ≡ bytes.old.items ++ listed T.text items.now) }
+    ensures { OnOk result (bytes.new.items ≡ bytes.old.items ++ listed T.spelling items.now) }
 {
     spell_two(items.len() as u32, bytes)?;
     spell_items(items, bytes)
@@ -45,7 +45,7 @@ pub fn spell_list<T: Spell>(items: &[T], bytes: &mut Vec<u8>) -> Result<(), NoMe
 /// The bytes of one item alone. So much room is taken at first, in bytes.
 pub fn spell_whole<T: Spell>(alloc: Global, room: usize, item: &T) -> Result<Bytes, NoMemory>
     requires { T.fits item.now }
-    ensures { IfOk result (λ bytes. bytes ≡ T.text item.now) }
+    ensures { IfOk result (λ bytes. bytes ≡ T.spelling item.now) }
 {
     let mut bytes = Vec::with_capacity(alloc, room)?;
     item.spell(&mut bytes)?;

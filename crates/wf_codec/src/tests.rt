@@ -8,6 +8,7 @@ use std::alloc::Global;
 use std::test::Fail;
 use wf_model::{List, NoMemory, UnitId, Update};
 
+mod longest;
 mod ranges;
 mod records;
 mod rows;

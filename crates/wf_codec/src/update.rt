@@ -7,22 +7,16 @@ ghost use Rattle.wf_codec.specs.Answers.{Answers};
 ghost use Rattle.wf_model.specs.declared.update.Update.{Update as UpdateValue};
 
 use crate::fault::{CodecFault, FieldFault, Misfit};
-use crate::field::{least_after, u8_in, u32_in};
+use crate::field::{ANY_NUMBER, CHART_NUMBERS, Numbers, least_after, u8_in, u32_in};
 use crate::item::{Read, list_of};
 use crate::room::update_room;
 use crate::spelling::spell_whole;
 use std::alloc::Global;
-use wf_model::limits::{
-    MAX_ACTS, MAX_EVENTS, MAX_FIRED, MAX_SEALED, MAX_STARTS, MAX_STATES, MAX_STEPS,
-    MAX_TRANSITIONS, MAX_UNITS, MAX_VARS,
-};
+use wf_model::limits::{MAX_FIRED, MAX_SEALED, MAX_STARTS, MAX_STATES, MAX_STEPS, MAX_UNITS};
 use wf_model::{Bytes, NoMemory, UnitId, Update};
 
 /// The first byte of an update.
 pub const TAG: u8 = 0x55;
-
-/// Above each count of two bytes, for the lists that have no bound of their own.
-const ANY_COUNT: u32 = 1 << 16;
 
 /// The one spelling of an update whose fields are in their ranges. Linear in its bytes.
 pub fn encode(alloc: Global, update: &Update) -> Result<Bytes, NoMemory>
@@ -55,7 +49,7 @@ fn first_update(alloc: Global, bytes: &[u8]) -> Result<(Update, usize), CodecFau
 {
     match bytes {
         [] => Err(CodecFault::Short),
-        [TAG, ..] => match Update::read(alloc, MAX_UNITS as u32, None, bytes) {
+        [TAG, ..] => match Update::read(alloc, CHART_NUMBERS, None, bytes) {
             Ok((update, rest)) => Ok((update, bytes.len() - rest.len())),
             Err(FieldFault::NoMemory) => Err(CodecFault::NoMemory),
             Err(FieldFault::Misfit(Misfit::Short)) => Err(CodecFault::Short),
@@ -75,20 +69,20 @@ impl Read for Update {
     #[tactic(auto, unfolding(crate::specs::Fields::update_at))]
     fn read<'a>(
         alloc: Global,
-        limit: u32,
+        numbers: Numbers,
         before: Option<&Update>,
         bytes: &'a [u8],
     ) -> Result<(Update, &'a [u8]), FieldFault> {
         let (_, rest) = u8_in(bytes, u64::from(TAG), u64::from(TAG) + 1)?;
         let least = least_after(before.map(|update| update.from.0));
-        let (from, rest) = u8_in(rest, least, u64::from(limit))?;
+        let (from, rest) = u8_in(rest, least, MAX_UNITS as u64)?;
         let (step, rest) = u32_in(rest, 1, u64::from(MAX_STEPS) + 2)?;
-        let (flips, rest) = list_of(alloc, MAX_STATES as u32, MAX_STATES as u32 + 1, rest)?;
-        let (writes, rest) = list_of(alloc, MAX_VARS as u32, ANY_COUNT, rest)?;
-        let (raised, rest) = list_of(alloc, MAX_EVENTS as u32, ANY_COUNT, rest)?;
-        let (starts, rest) = list_of(alloc, MAX_ACTS as u32, MAX_STARTS as u32 + 1, rest)?;
-        let (fired, rest) = list_of(alloc, MAX_TRANSITIONS as u32, MAX_FIRED as u32 + 1, rest)?;
-        let (outer, rest) = list_of(alloc, MAX_EVENTS as u32, MAX_SEALED as u32 + 1, rest)?;
+        let (flips, rest) = list_of(alloc, numbers, MAX_STATES as u32 + 1, rest)?;
+        let (writes, rest) = list_of(alloc, numbers, ANY_NUMBER, rest)?;
+        let (raised, rest) = list_of(alloc, numbers, ANY_NUMBER, rest)?;
+        let (starts, rest) = list_of(alloc, numbers, MAX_STARTS as u32 + 1, rest)?;
+        let (fired, rest) = list_of(alloc, numbers, MAX_FIRED as u32 + 1, rest)?;
+        let (outer, rest) = list_of(alloc, numbers, MAX_SEALED as u32 + 1, rest)?;
         let update = Update {
             from: UnitId(u32::from(from)),
             step,

@@ -1,17 +1,27 @@
 //! Values: truths, integers and texts.
-ghost use Rattle.std.specs.Prelude.{◌≤◌, None};
-ghost use Rattle.wf_codec.specs.Reading.{Gives, items_at};
-ghost use Rattle.wf_codec.specs.Fields.{char_at, value_of_sort, value_at};
+ghost use Rattle.std.specs.Prelude.{◌≤◌};
+ghost use Rattle.wf_model.specs.Txt.{is_text_char as is_text};
+ghost use Rattle.wf_codec.specs.Reading.{Reads, byte_that, bytes_that};
+ghost use Rattle.wf_codec.specs.Fields.{bool_at, int_at, text_at, value_at};
 
 use crate::fault::{FieldFault, Misfit};
 use crate::field::{bad, u8_in, u64_of};
 use wf_model::limits::MAX_TEXT;
 use wf_model::{Txt, Val, is_text_char};
 
+/// The sort of a truth, the first byte of its value.
+pub const BOOL: u8 = 0;
+
+/// The sort of an integer.
+pub const INT: u8 = 1;
+
+/// The sort of a text.
+pub const TEXT: u8 = 2;
+
 /// A text character.
-#[tactic(auto, unfolding(crate::specs::Fields::char_at))]
+#[tactic(auto, unfolding(crate::specs::Reading::byte_that))]
 fn char_of(bytes: &[u8]) -> Result<(u8, &[u8]), FieldFault>
-    ensures { Gives (λ x. (x.0, x.1.now)) result (char_at None bytes.now) }
+    ensures { Reads result (byte_that is_text bytes.now) }
 {
     match bytes {
         [] => Err(FieldFault::Misfit(Misfit::Short)),
@@ -28,7 +38,7 @@ fn char_of(bytes: &[u8]) -> Result<(u8, &[u8]), FieldFault>
 /// So many text characters, at most 64. Linear in them.
 fn chars_of(count: u8, bytes: &[u8]) -> Result<(Txt, &[u8]), FieldFault>
     requires { count ≤ MAX_TEXT }
-    ensures { Gives (λ x. (x.0, x.1.now)) result (items_at char_at count None bytes.now) }
+    ensures { Reads result (bytes_that is_text count bytes.now) }
 {
     let mut text = Txt::new();
     let mut rest = bytes;
@@ -41,27 +51,27 @@ fn chars_of(count: u8, bytes: &[u8]) -> Result<(Txt, &[u8]), FieldFault>
 }
 
 /// A truth behind its sort.
-#[tactic(auto, unfolding(crate::specs::Fields::value_of_sort))]
+#[tactic(auto, unfolding(crate::specs::Fields::bool_at))]
 fn bool_of(bytes: &[u8]) -> Result<(Val, &[u8]), FieldFault>
-    ensures { Gives (λ x. (x.0, x.1.now)) result (value_of_sort 0 bytes.now) }
+    ensures { Reads result (bool_at bytes.now) }
 {
     let (truth, rest) = u8_in(bytes, 0, 2)?;
     Ok((Val::Bool(truth == 1), rest))
 }
 
 /// An integer behind its sort.
-#[tactic(auto, unfolding(crate::specs::Fields::value_of_sort))]
+#[tactic(auto, unfolding(crate::specs::Fields::int_at))]
 fn int_of(bytes: &[u8]) -> Result<(Val, &[u8]), FieldFault>
-    ensures { Gives (λ x. (x.0, x.1.now)) result (value_of_sort 1 bytes.now) }
+    ensures { Reads result (int_at bytes.now) }
 {
     let (number, rest) = u64_of(bytes)?;
     Ok((Val::Int(number.cast_signed()), rest))
 }
 
 /// A text behind its sort.
-#[tactic(auto, using(crate::proofs::ReadFields::byte_is_below), unfolding(crate::specs::Fields::value_of_sort))]
+#[tactic(auto, using(crate::proofs::ReadFields::byte_is_below), unfolding(crate::specs::Fields::text_at))]
 fn text_of(bytes: &[u8]) -> Result<(Val, &[u8]), FieldFault>
-    ensures { Gives (λ x. (x.0, x.1.now)) result (value_of_sort 2 bytes.now) }
+    ensures { Reads result (text_at bytes.now) }
 {
     let (len, rest) = u8_in(bytes, 0, MAX_TEXT as u64 + 1)?;
     // Not by `?`, which has no proof yet at a text beside a slice.
@@ -72,14 +82,14 @@ fn text_of(bytes: &[u8]) -> Result<(Val, &[u8]), FieldFault>
 }
 
 /// A value behind its sort, which is a byte: a truth, an integer or a text.
-#[tactic(auto, using(crate::proofs::ReadFields::sort_of_text), unfolding(crate::specs::Fields::value_at))]
+#[tactic(auto, unfolding(crate::specs::Fields::value_at))]
 pub fn value_of(bytes: &[u8]) -> Result<(Val, &[u8]), FieldFault>
-    ensures { Gives (λ x. (x.0, x.1.now)) result (value_at bytes.now) }
+    ensures { Reads result (value_at bytes.now) }
 {
-    let (sort, rest) = u8_in(bytes, 0, 3)?;
+    let (sort, rest) = u8_in(bytes, u64::from(BOOL), u64::from(TEXT) + 1)?;
     match sort {
-        0 => bool_of(rest),
-        1 => int_of(rest),
+        BOOL => bool_of(rest),
+        INT => int_of(rest),
         _ => text_of(rest),
     }
 }

@@ -2,6 +2,7 @@
 use super::{answer, bytes_of};
 use crate::{CodecFault, decode};
 use std::test::Fail;
+use wf_model::limits::MAX_TEXT;
 use wf_model::{Txt, Val, is_text_char};
 
 /// Whether all of these bytes spell an update.
@@ -131,7 +132,7 @@ fn greatest_counts_are_short(rt: HostRuntime) -> Result<(), Fail> {
 fn text_of(chars: &[u8; 2]) -> Val {
     let mut text = Txt::new();
     for c in chars {
-        if is_text_char(*c) && text.len() < 64 {
+        if is_text_char(*c) && text.len() < MAX_TEXT {
             text.push(*c);
         }
     }

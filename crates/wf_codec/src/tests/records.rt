@@ -1,11 +1,13 @@
 //! Records, and bodies that are none.
 ghost use Rattle.std.specs.Prelude.{◌<◌, ◌≤◌, IfOk, length};
 ghost use Rattle.std.specs.List.{AllByRecursion};
+ghost use Rattle.wf_model.specs.declared.limits.TheConstants.{MAX_OUTPUTS, MAX_VARS};
 
 use super::{bytes_of, empty, is_record, one};
 use crate::{JournalRecord, decode_record, encode_record};
 use std::alloc::Global;
 use std::test::Fail;
+use wf_model::limits::MAX_NAME;
 use wf_model::{ActId, EventId, List, Name, NoMemory, Outer, Output, Txt, Val, VarId};
 
 const HEAD: &str = "48 01 03 74776f 01 61";
@@ -45,8 +47,8 @@ fn an_admission_is_spelled(rt: HostRuntime) -> Result<(), Fail> {
 
 /// An output of each sort.
 fn outputs(alloc: Global) -> Result<List<Output>, NoMemory>
-    ensures count { IfOk result (λ outputs. length outputs ≤ 8) }
-    ensures each { IfOk result (λ outputs. AllByRecursion (λ o. o.var.0 < 128) outputs) }
+    ensures count { IfOk result (λ outputs. length outputs ≤ MAX_OUTPUTS) }
+    ensures each { IfOk result (λ outputs. AllByRecursion (λ o. o.var.0 < MAX_VARS) outputs) }
 {
     let mut text = Txt::new();
     text.push(b'a');
@@ -162,14 +164,14 @@ fn other_bodies(rt: HostRuntime) -> Result<(), Fail> {
 #[test]
 fn longest_name(rt: HostRuntime) -> Result<(), Fail> {
     let mut body = bytes_of(&rt, "48 01 20")?;
-    for _ in 0..32 {
+    for _ in 0..MAX_NAME {
         body.push(b'a')?;
     }
     body.push(1)?;
     body.push(b'u')?;
     assert!(rt; is_record(&rt, &body)?);
     let mut body = bytes_of(&rt, "48 01 21")?;
-    for _ in 0..33 {
+    for _ in 0..MAX_NAME + 1 {
         body.push(b'a')?;
     }
     body.push(1)?;

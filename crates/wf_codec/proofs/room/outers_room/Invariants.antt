@@ -1,5 +1,11 @@
-use Rattle.std.proofs.Common.{◌≤◌, ◌*◌}
+use Rattle.std.proofs.Common.{◌≡◌, ◌≤◌, ◌*◌, length, take}
+use Rattle.std.specs.List.{flat_map}
+use Rattle.wf_codec.specs.declared.room.TheConstants.{OUTER}
+use Rattle.wf_codec.specs.Spelling.{outer_spelling}
 use Rattle.wf_codec.proofs.room.outers_room.Given as goal
 
 abbrev pub invariant-loop-outer : goal.invariant-loop-outer
-invariant-loop-outer l = l.room ≤ 552 * l.outer-index
+invariant-loop-outer l = record {
+  so_far : l.room ≡ length (flat_map outer_spelling (take l.outer-index l.outers));
+  bound : l.room ≤ OUTER * l.outer-index;
+}

@@ -1,5 +1,5 @@
 -- The text of a chart that is split into parts.
-use Rattle.std.specs.Prelude.{◌≡◌, ℕ, ◌++◌, Bool, true, false, List, All, map, filter, length, slice_get, unwrap_or}
+use Rattle.std.specs.Prelude.{◌≡◌, ℕ, ◌++◌, Bool, true, false, List, All, map, filter, length, slice_index_or}
 use Rattle.std.specs.List.{flat_map, range_with_len}
 use Rattle.std.specs.Fmt.{decimal}
 use lib.Chars.{codes}
@@ -35,7 +35,7 @@ known_lines chart part =
     ++ names_line (codes "acts") (map (λ k. act_name chart k.id) part.acts)))
 
 abbrev pub bit : List Bool → ℕ → Bool
-bit bits s = unwrap_or (slice_get bits s) false
+bit bits s = slice_index_or bits s false
 
 -- of each state that the unit knows, the bit tells whether it watches it
 abbrev pub AreWatched : Chart → Part → List Bool → Type 0

@@ -9,6 +9,7 @@ ghost use Rattle.wf_partition.specs.SplitText as spec;
 
 use crate::marks::watched;
 use crate::part::part_of;
+use crate::reading::is_set;
 use std::alloc::Global;
 use wf_model::{
     Bytes, Chart, Checked, Component, Flat, KnownActivity, KnownEvent, KnownState, KnownVariable,
@@ -62,15 +63,6 @@ fn append_name(text: &mut Bytes, name: &[u8]) -> Result<(), NoMemory>
 {
     text.append(b" ")?;
     text.append(name)
-}
-
-fn is_set(bits: &[bool], at: usize) -> bool
-    ensures { result ≡ spec.bit bits.now at }
-{
-    match bits.get(at) {
-        Some(is_set) => *is_set,
-        None => false,
-    }
 }
 
 // Appends the line of the states whose bits are set.

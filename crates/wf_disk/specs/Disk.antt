@@ -9,7 +9,7 @@ pub record Told : Type 1 where
   pub clock : ℕ
   -- how often it has failed
   pub faults : ℕ
-  -- a number that doesn't fall, by which moments are named
+  -- a number by which moments are named, which no call of the trait lowers
   pub moment : ℕ
   -- the images that a crash now may leave
   pub may_leave : List ℕ → Type 0
@@ -74,10 +74,18 @@ pub record Elapses (old new : Told) : Type 0 where
   pub nothing_else : (t : ℕ) (c : List ℕ) → t ≤ old.moment → new.left_since t c → old.left_since t c ⊎ new.may_leave c
   pub keeps : (t : ℕ) → t ≤ old.moment → Within (old.left_since t) (new.left_since t)
 
+-- the greatest number to which a disk counts
+abbrev pub last_count : ℕ
+last_count = 2 ^ 64 - 1
+
+-- a clock that stood at its end, and stands there still
+abbrev pub StandsAtEnd : Told → Told → Type 0
+StandsAtEnd old new = (old.clock ≡ last_count) × (new.clock ≡ last_count)
+
 -- One stroke. At a failure the clock may stand at its end instead, and then nothing was done.
 pub record Strikes (old new : Told) (at_ok at_failure : Type 0) : Type 0 where
   pub done : at_ok → new.clock ≡ old.clock + 1
-  pub failed : at_failure → (new.clock ≡ old.clock + 1) ⊎ ((new.clock ≡ old.clock) × Within new.may_leave old.may_leave)
+  pub failed : at_failure → (new.clock ≡ old.clock + 1) ⊎ (StandsAtEnd old new × Within new.may_leave old.may_leave)
 
 -- Which strokes fail: those that are to, where the disk tells its image. A failure may take the disk down.
 pub record GoesToPlan (old new : Told) (at_ok at_failure : Type 0) : Type 0 where
@@ -86,9 +94,9 @@ pub record GoesToPlan (old new : Told) (at_ok at_failure : Type 0) : Type 0 wher
   pub failed : at_failure → old.is_to_fail (old.clock + 1)
   pub kept_or_down : at_failure → KeepsPlan old new ⊎ IsDown new
 
--- a count that rose, or stands at its type's end
+-- a count that rose, or stands at its end
 abbrev pub Rose : ℕ → ℕ → Type 0
-Rose before now = min (before + 1) (2 ^ 64 - 1) ≤ now
+Rose before now = min (before + 1) last_count ≤ now
 
 -- the count of faults doesn't fall, and a failure has its cause
 pub record HasCause (old new : Told) (failure : Type 0) : Type 0 where

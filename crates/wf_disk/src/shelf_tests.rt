@@ -1,6 +1,6 @@
 //! A shelf that can be met, and a caller that knows no more of a shelf than the trait says.
 ghost use Rattle.std.specs.Prelude.{◌≡◌, ◌<◌, ◌+◌, ◌-◌, ◌^◌, ◌&&◌, ◌==◌, [], ℕ, List, Some, None, true, if◌then◌else◌, min, length, OnOk, IfOk, IfSome};
-ghost use Rattle.wf_disk.specs.Disk.{Only, put_at};
+ghost use Rattle.wf_disk.specs.Disk.{Only, put_at, last_count};
 ghost use Rattle.wf_disk.specs.Shelf.{HasNothingUnsynced};
 
 use crate::{Disk, DiskShelf, TakeRefused, WriteRefused};
@@ -31,7 +31,7 @@ fn write_on<S: DiskShelf>(shelf: &mut S, unit: &Name, bytes: &[u8]) -> Result<bo
     Ok(done)
 }
 
-/// A disk that fails at each call, and tells nothing of its bytes.
+/// A disk that fails at each call, with its clock at its end. It tells nothing of its bytes.
 #[derive(Drop)]
 struct Dead {
     faults: u64,
@@ -53,7 +53,7 @@ impl Disk for Dead {
 
     ghost told = { λ disk. record {
       image = None;
-      clock = 0;
+      clock = last_count;
       faults = disk.faults;
       moment = 0;
       may_leave = λ c. c ≡ [];

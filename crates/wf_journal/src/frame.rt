@@ -1,5 +1,6 @@
 //! The bytes of a frame.
 ghost use Rattle.std.specs.Prelude.{◌≡◌, ◌+◌, ◌≤◌, ◌++◌, ◌∷◌, [], ◌==◌, OnOk, IsOk, length, vec_capacity};
+ghost use Rattle.wf_journal.specs.declared.frame.TheConstants.{OPEN, CLOSED, HEADER};
 ghost use Rattle.wf_journal.specs.Frames.{packed};
 ghost use Rattle.wf_journal.specs.StepAt.{fits_in};
 
@@ -19,8 +20,8 @@ pub const HEADER: u64 = 5;
 /// made at an `Err`. It takes memory once, where it has no room for `HEADER` bytes and the body.
 pub fn pack(frame: &mut Vec<u8>, body: &[u8]) -> Result<(), AllocError>
     requires { length body.now ≤ MAX_BODY }
-    ensures ok { OnOk result (frame.new.items ≡ packed body.now ++ 0 ∷ []) }
-    ensures succeeds { length body.now + 5 ≤ vec_capacity frame.old → IsOk result }
+    ensures ok { OnOk result (frame.new.items ≡ packed body.now ++ CLOSED ∷ []) }
+    ensures succeeds { HEADER + length body.now ≤ vec_capacity frame.old → IsOk result }
     ensures capacity { vec_capacity frame.old ≤ vec_capacity frame.new }
 {
     frame.clear();
@@ -40,7 +41,7 @@ pub fn is_fit(len: u64, space: u64) -> bool
 
 /// Whether a gate is open.
 pub fn is_open(gate: u8) -> bool
-    ensures { result ≡ (gate == 1) }
+    ensures { result ≡ (gate == OPEN) }
 {
     gate == OPEN
 }

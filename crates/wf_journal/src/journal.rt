@@ -1,6 +1,7 @@
 //! A journal: bodies that were appended in order, each on the disk before it is acknowledged.
 ghost use Rattle.std.specs.Prelude.{◌≡◌, ◌⊎◌, ◌+◌, ◌≤◌, ◌<◌, ◌∷◌, [], ℕ, List, true, false, nat_lt, if◌then◌else◌, Option, None, Some, IfSome, is_some, IsNone, IfOk, IfErr, IsOk, OnOk, IsErr, IsErrOf, length};
 ghost use Rattle.wf_disk.specs.Disk.{HasCause, IsSafeFor, LeavesOnly, IsSame};
+ghost use Rattle.wf_journal.specs.declared.frame.TheConstants.{HEADER};
 ghost use Rattle.wf_journal.specs.Frames.{bodies_of, is_broken, end_of, IsAsBefore, IsBeforeOrAfter};
 ghost use Rattle.wf_journal.specs.Journal.{IsLeft, HasBodiesOf, KeepsBodies, IsPlace, IsRead};
 ghost use Rattle.wf_journal.specs.Faults.{refusal_of};
@@ -31,13 +32,13 @@ pub struct JournalRefused<D> {
 /// of its closed gate, whether a disk call of an append failed, and the longest body for which it has room of its own.
 #[derive(Drop)]
 pub struct Journal<D: Disk> {
-    /// The disk, which holds the frames and nothing else.
+    /// The disk that holds the frames.
     disk: D,
     /// The place of the closed gate, in bytes from the file's begin.
     place: u64,
     /// Whether a disk call of an append failed.
     failed: bool,
-    /// A buffer in which a frame is made. Its capacity stays.
+    /// The buffer in which a frame is made. Its capacity never falls.
     frame: Vec<u8>,
     /// Where bodies that are read take their memory.
     alloc: Global,
@@ -46,12 +47,13 @@ pub struct Journal<D: Disk> {
 impl<D: Disk> Model for Journal<D> {
     ghost use Rattle.std.specs.Prelude.{◌-◌, vec_capacity};
     ghost use Rattle.wf_journal.specs.State.{Kept, kept_code, IsReady};
+    ghost use Rattle.wf_journal.specs.declared.frame.TheConstants.{HEADER};
 
     ghost Value = { Kept D };
 
     ghost coded = { kept_code D.code };
 
-    ghost view = { λ it. record { disk = it.disk; place = it.place; failed = it.failed; room = vec_capacity it.frame - 5 } };
+    ghost view = { λ it. record { disk = it.disk; place = it.place; failed = it.failed; room = vec_capacity it.frame - HEADER } };
 
     ghost invariant = { λ it. IsReady (D.told it.disk) it.place it.failed };
 }
@@ -101,7 +103,7 @@ impl<D: Disk> Journal<D> {
             Some(AppendFault::Reopen)
         } else if len == 0 || MAX_BODY < len as u64 {
             Some(AppendFault::TooLong)
-        } else if MAX_JOURNAL - 6 - (len as u64) < self.place {
+        } else if MAX_JOURNAL - HEADER - (len as u64) - 1 < self.place {
             Some(AppendFault::Full)
         } else {
             None
@@ -117,8 +119,7 @@ impl<D: Disk> Journal<D> {
         ensures other { IsNone (refusal_of self.old.failed self.old.place (length body.now)) → IfErr result (λ fault. (fault ≡ AppendFault.NoMemory) ⊎ (fault ≡ AppendFault.DiskFailed)) }
         ensures ok { OnOk result (IsLeft (D.told self.old.disk) (D.told self.new.disk) self.new.place (body.now ∷ [])) }
         ensures no_memory { IsErrOf result AppendFault.NoMemory → IsLeft (D.told self.old.disk) (D.told self.new.disk) self.new.place [] }
-
-        ensures place { OnOk result (self.new.place ≡ self.old.place + (5 + length body.now)) }
+        ensures place { OnOk result (self.new.place ≡ self.old.place + (HEADER + length body.now)) }
         ensures place_kept { IsErr result → self.new.place ≡ self.old.place }
         ensures tells { is_some (D.told self.new.disk).image ≡ is_some (D.told self.old.disk).image }
 
@@ -157,7 +158,7 @@ impl<D: Disk> Journal<D> {
 
     /// Reads the body of the frame at a place into `into`, and gives the place behind it; none at the end. The place
     /// is 0, or was given by an earlier read. At the end and after an `Err` `into` is empty. In linear time in the body,
-    /// which is the only one in memory: what `into` had is let go first.
+    /// for which the memory that `into` has is used again.
     pub fn read(&mut self, place: u64, into: &mut Bytes) -> Result<Option<u64>, ReadFault>
         ensures read { IfOk result (λ next. (file : List ℕ) → (D.told self.old.disk).image ≡ Some file → IsPlace file place → IsRead file place next into.new) }
         ensures none { IfOk result (λ next. next ≡ None → into.new ≡ []) }

@@ -1,12 +1,13 @@
 //! The walk over the frames of a disk.
 ghost use Rattle.std.specs.Prelude.{◌≡◌, ◌+◌, ◌≤◌, ◌<◌, ℕ, List, Option, None, Some, IfOk, IfErr, IsErr, IsErrOf, true, false, [], nat_lt, if◌then◌else◌, length, drop};
 ghost use Rattle.wf_disk.specs.Disk.{IsSame, HasCause, LeavesOnly};
+ghost use Rattle.wf_journal.specs.declared.frame.TheConstants.{HEADER};
 ghost use Rattle.wf_journal.specs.Frames.{IsAtRest, end_of, is_broken};
 ghost use Rattle.wf_journal.specs.Journal.{IsLeft, HasBodiesOf, KeepsBodies, IsPlace, IsRead};
 ghost use Rattle.wf_journal.specs.StepAt.{step_of};
 
 use crate::fault::{ReadFault, StartFault};
-use crate::frame::{HEADER, is_fit, is_open};
+use crate::frame::{CLOSED, HEADER, is_fit, is_open};
 use wf_disk::Disk;
 use wf_model::Failed;
 
@@ -24,7 +25,7 @@ pub fn step_at<D: Disk>(disk: &mut D, at: u64, size: u64) -> Result<Step, Failed
     requires within { at < size }
     requires size { (file : List ℕ) → (D.told disk.old).image ≡ Some file → size ≡ length file }
     ensures step { IfOk result (λ step. (file : List ℕ) → (D.told disk.old).image ≡ Some file → step ≡ step_of at (drop at file)) }
-    ensures next { IfOk result (λ step. (next : ℕ) → step ≡ Step.Next next → (at + 5 < next × next < size)) }
+    ensures next { IfOk result (λ step. (next : ℕ) → step ≡ Step.Next next → (at + HEADER < next × next < size)) }
     ensures same { IsSame (D.told disk.old) (D.told disk.new) }
     ensures cause { HasCause (D.told disk.old) (D.told disk.new) (IsErr result) }
 {
@@ -81,7 +82,7 @@ pub fn find_end<D: Disk>(disk: &mut D) -> Result<u64, StartFault>
     disk.sync()?;
     let size = disk.size()?;
     if size < 2 {
-        disk.write_at(0, &[0])?;
+        disk.write_at(0, &[CLOSED])?;
         disk.sync()?;
         return Ok(0);
     }

@@ -8,6 +8,7 @@ use Rattle.wf_journal.specs.declared.fault.StartFault.TheVariants as start
 use Rattle.wf_journal.specs.declared.fault.AppendFault.{AppendFault}
 use Rattle.wf_journal.specs.declared.fault.AppendFault.TheVariants.{Reopen, TooLong, Full}
 
+-- a write's refusal, as a start tells it
 abbrev pub start_fault : WriteRefused → StartFault
 start_fault write.Failed = start.DiskFailed
 start_fault write.NoMemory = start.NoMemory

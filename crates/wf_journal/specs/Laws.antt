@@ -4,7 +4,7 @@ use Rattle.wf_model.specs.declared.limits.TheConstants.{MAX_BODY}
 use Rattle.wf_journal.specs.declared.frame.TheConstants.{OPEN}
 use Rattle.wf_journal.specs.Frames.{packed}
 
--- a body has at least one byte, and no more than a body may have
+-- what may be a body: 1 to MAX_BODY bytes
 pub record IsBody (body : List ℕ) : Type 0 where
   pub some : 1 ≤ length body
   pub most : length body ≤ MAX_BODY

@@ -16,8 +16,8 @@ pub const CLOSED: u8 = 0;
 /// Bytes of a frame in front of its body: its gate and its length.
 pub const HEADER: u64 = 5;
 
-/// Makes of `frame` what stands behind a frame's gate: the length, the body and a closed gate. It is empty or in part
-/// made at an `Err`. It takes memory once, where it has no room for `HEADER` bytes and the body.
+/// Makes of `frame` what stands behind a frame's gate: the length, the body and a closed gate. Takes memory where `frame`
+/// has no room for `HEADER` bytes and the body. In linear time in the body.
 pub fn pack(frame: &mut Vec<u8>, body: &[u8]) -> Result<(), AllocError>
     requires { length body.now ≤ MAX_BODY }
     ensures ok { OnOk result (frame.new.items ≡ packed body.now ++ CLOSED ∷ []) }

@@ -3,8 +3,8 @@ use Rattle.std.proofs.Common.{◌≡◌, ℕ, zero, suc, ◌+◌, ◌≤◌, max
 use Rattle.std.proofs.lemmas.List.{length-replicate, take_all, take-append-le, drop-append-le}
 use Rattle.std.specs.Prelude.{nat_le}
 use Rattle.wf_disk.specs.Disk.{put_at}
-use Rattle.wf_disk.specs.Strokes.{Stroke, image_after, torn_after, are_fit, are_writes}
-use Rattle.wf_disk.specs.Entries.{total, strokes_of, torn_by, do_fit}
+use Rattle.wf_disk.specs.Strokes.{Stroke, image_after, ranges_of, torn_over, torn_after, do_fit, are_fit, are_writes}
+use Rattle.wf_disk.specs.Entries.{total, strokes_of, ranges_in}
 use Rattle.wf_disk.specs.declared.entry.Entry.{Entry}
 use Rattle.wf_disk.specs.declared.entry.Entry.TheVariants as entry
 
@@ -68,47 +68,32 @@ total-take (suc k) [] = omega arith
 total-take (suc k) (entry.Wrote at len ∷ entries) = let less = total-take k entries in omega arith
 total-take (suc k) (entry.Synced ∷ entries) = total-take k entries
 
--- the later strokes are those of the later entries, with the later bytes
-pub record Later (k : ℕ) (entries : List Entry) (written : List ℕ) : Type 0 where
-  pub bytes : List ℕ
-  pub filled : total (drop k entries) ≤ length bytes
-  pub strokes : drop k (strokes_of entries written) ≡ strokes_of (drop k entries) bytes
-
-pub later_of : (k : ℕ) (entries : List Entry) (written : List ℕ) → total entries ≤ length written → Later k entries written
-later_of zero entries written filled = record { bytes = written; filled = filled; strokes = refl }
-later_of (suc k) [] written filled = record { bytes = written; filled = filled; strokes = refl }
-later_of (suc k) (entry.Wrote at len ∷ entries) written filled =
-    let rest = later_of k entries (drop len written) (omega (arith, length-drop len written)) in
-    record { bytes = rest.bytes; filled = rest.filled; strokes = rest.strokes }
-later_of (suc k) (entry.Synced ∷ entries) written filled =
-    let rest = later_of k entries written filled in
-    record { bytes = rest.bytes; filled = rest.filled; strokes = rest.strokes }
-
-pub are_fit-strokes_of : (n room : ℕ) (entries : List Entry) (written : List ℕ) → total entries ≤ length written → are_fit n room (strokes_of entries written) ≡ do_fit n room entries
-are_fit-strokes_of n room [] written filled = refl
-are_fit-strokes_of n room (entry.Wrote at len ∷ entries) written filled =
+-- strokes write the ranges of their entries
+pub ranges_of-strokes_of : (entries : List Entry) (written : List ℕ) → total entries ≤ length written → ranges_of (strokes_of entries written) ≡ ranges_in entries
+ranges_of-strokes_of [] written filled = refl
+ranges_of-strokes_of (entry.Wrote at len ∷ entries) written filled =
     let size : length (take len written) ≡ len = length-take-le len written (omega arith) in
-    rw size (ap (λ rest. (nat_le at n && nat_le (at + len) room) && rest) (are_fit-strokes_of (max n (at + len)) room entries (drop len written) (omega (arith, length-drop len written))))
-are_fit-strokes_of n room (entry.Synced ∷ entries) written filled = are_fit-strokes_of n room entries written filled
+    let later = ranges_of-strokes_of entries (drop len written) (omega (arith, length-drop len written)) in
+    rw (size, later) refl
+ranges_of-strokes_of (entry.Synced ∷ entries) written filled = ranges_of-strokes_of entries written filled
 
-pub torn_after-strokes_of : (file : List ℕ) (entries : List Entry) (written : List ℕ) → total entries ≤ length written → torn_after file (strokes_of entries written) ≡ torn_by file entries
-torn_after-strokes_of file [] written filled = refl
-torn_after-strokes_of file (entry.Wrote at len ∷ entries) written filled =
-    let size : length (take len written) ≡ len = length-take-le len written (omega arith) in
-    subst (λ n. torn_after (put_at file at (replicate n 255)) (strokes_of entries (drop len written)) ≡ torn_by (put_at file at (replicate len 255)) entries) (sym size)
-    (torn_after-strokes_of (put_at file at (replicate len 255)) entries (drop len written) (omega (arith, length-drop len written)))
-torn_after-strokes_of file (entry.Synced ∷ entries) written filled = torn_after-strokes_of file entries written filled
+-- the later strokes write the ranges of the later entries
+pub ranges_of-later : (k : ℕ) (entries : List Entry) (written : List ℕ) → total entries ≤ length written → ranges_of (drop k (strokes_of entries written)) ≡ ranges_in (drop k entries)
+ranges_of-later zero entries written filled = ranges_of-strokes_of entries written filled
+ranges_of-later (suc k) [] written filled = refl
+ranges_of-later (suc k) (entry.Wrote at len ∷ entries) written filled = ranges_of-later k entries (drop len written) (omega (arith, length-drop len written))
+ranges_of-later (suc k) (entry.Synced ∷ entries) written filled = ranges_of-later k entries written filled
 
 -- a loop that does the entries from the place i on again
 pub record Redoes (first image written left : List ℕ) (entries : List Entry) (i room capacity : ℕ) : Type 0 where
   pub ends : image_after image (strokes_of (drop i entries) left) ≡ image_after first (strokes_of entries written)
   pub filled : total (drop i entries) ≤ length left
-  pub fit : do_fit (length image) room (drop i entries) ≡ true
+  pub fit : do_fit (length image) room (ranges_in (drop i entries)) ≡ true
   pub grows : room ≤ capacity
 
 pub record Tears (first image : List ℕ) (entries : List Entry) (i room capacity : ℕ) : Type 0 where
-  pub ends : torn_by image (drop i entries) ≡ torn_by first entries
-  pub fit : do_fit (length image) room (drop i entries) ≡ true
+  pub ends : torn_over image (ranges_in (drop i entries)) ≡ torn_over first (ranges_in entries)
+  pub fit : do_fit (length image) room (ranges_in (drop i entries)) ≡ true
   pub grows : room ≤ capacity
 
 -- STROKES THAT FIT

@@ -1,16 +1,16 @@
 -- What an armed disk does at a stroke.
-use Rattle.std.specs.Prelude.{ℕ, ◌+◌, ◌==◌, Bool, false, if◌then◌else◌, Option, None, Some}
+use Rattle.std.specs.Prelude.{ℕ, ◌+◌, ◌==◌, Bool, if◌then◌else◌, Option, None, Some}
 use Rattle.wf_disk.specs.declared.arm.Arm.{Arm}
 use Rattle.wf_disk.specs.declared.arm.Arm.TheVariants.{Fail, Crash}
 use Rattle.wf_disk.specs.declared.arm.Armed.{Armed}
 use Rattle.wf_disk.specs.declared.arm.Fate.{Fate}
 use Rattle.wf_disk.specs.declared.arm.Fate.TheVariants as fate
 
--- the stroke that moves the clock to n is the counted one
-abbrev pub is_counted : Option Armed → ℕ → Bool
-is_counted None n = false
-is_counted (Some arm) n = arm.after + arm.stroke == n
+-- the stroke that moves the clock to n is the one that this arm counts
+abbrev pub is_counted : Armed → ℕ → Bool
+is_counted arm n = arm.after + arm.stroke == n
 
+-- what the counted stroke does
 abbrev pub fate_by : Arm → Fate
 fate_by Fail = fate.Fails
 fate_by (Crash outcome) = fate.Stops outcome
@@ -18,4 +18,4 @@ fate_by (Crash outcome) = fate.Stops outcome
 -- what the stroke that moves the clock to n does
 abbrev pub fate_at : Option Armed → ℕ → Fate
 fate_at None n = fate.Done
-fate_at (Some arm) n = if arm.after + arm.stroke == n then fate_by arm.what else fate.Done
+fate_at (Some arm) n = if is_counted arm n then fate_by arm.what else fate.Done

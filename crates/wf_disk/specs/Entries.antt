@@ -1,9 +1,8 @@
 -- How a disk in memory keeps its strokes: an entry for each, and the bytes of all writes in one buffer.
-use Rattle.std.specs.Prelude.{◌≡◌, ℕ, ◌+◌, ◌<◌, ◌≤◌, max, Bool, true, ◌&&◌, nat_le, List, [], ◌∷◌, length, take, drop, replicate}
-use Rattle.wf_disk.specs.Disk.{put_at}
+use Rattle.std.specs.Prelude.{◌≡◌, ℕ, ◌+◌, ◌<◌, ◌≤◌, List, [], ◌∷◌, length, take, drop}
 use Rattle.wf_disk.specs.declared.entry.Entry.{Entry}
 use Rattle.wf_disk.specs.declared.entry.Entry.TheVariants as entry
-use Rattle.wf_disk.specs.Strokes.{Stroke}
+use Rattle.wf_disk.specs.Strokes.{Stroke, Range}
 
 -- how many bytes these entries have
 abbrev pub total : List Entry → ℕ
@@ -17,17 +16,11 @@ strokes_of [] written = []
 strokes_of (entry.Wrote at len ∷ entries) written = Stroke.Wrote at (take len written) ∷ strokes_of entries (drop len written)
 strokes_of (entry.Synced ∷ entries) written = Stroke.Synced ∷ strokes_of entries written
 
--- the image with each range that these entries write full of 0xFF
-abbrev pub torn_by : List ℕ → List Entry → List ℕ
-torn_by file [] = file
-torn_by file (entry.Wrote at len ∷ entries) = torn_by (put_at file at (replicate len 255)) entries
-torn_by file (entry.Synced ∷ entries) = torn_by file entries
-
--- each write begins in the image, which has so many bytes at first, and ends within the room
-abbrev pub do_fit : ℕ → ℕ → List Entry → Bool
-do_fit n room [] = true
-do_fit n room (entry.Wrote at len ∷ entries) = (nat_le at n && nat_le (at + len) room) && do_fit (max n (at + len)) room entries
-do_fit n room (entry.Synced ∷ entries) = do_fit n room entries
+-- the ranges that these entries write
+abbrev pub ranges_in : List Entry → List Range
+ranges_in [] = []
+ranges_in (entry.Wrote at len ∷ entries) = record { at = at; len = len } ∷ ranges_in entries
+ranges_in (entry.Synced ∷ entries) = ranges_in entries
 
 -- a record of strokes, as the disk sees it
 pub record Recorded : Type 0 where

@@ -3,4 +3,5 @@ pub mod Disk
 pub mod Strokes
 pub mod Entries
 pub mod Memory
+pub mod MemoryLaws
 pub mod Shelf

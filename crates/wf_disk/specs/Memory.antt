@@ -1,10 +1,8 @@
 -- A disk in memory tells its moments from a record of its strokes.
-use Rattle.std.specs.Prelude.{◌≡◌, ℕ, zero, suc, ◌+◌, ◌-◌, ◌^◌, ◌≤◌, min, Bool, true, ◌||◌, ◌==◌, nat_le, if◌then◌else◌, List, [], ◌∷◌, ◌++◌, length, drop, Option, None, Some, is_some, unwrap_or}
-use mathlib.Core.Logic.{inr}
-use Rattle.std.proofs.Common.{refl, sym, ap, arith, ◌∙◌}
-use Rattle.wf_disk.specs.Disk.{Told, Only, IsLawful}
-use Rattle.wf_disk.specs.Strokes.{Stroke, State, Outcome, Since, image_after, left_after, are_fit, are_writes, first_state, after, state_after}
-use Rattle.wf_disk.specs.Arms.{is_counted, fate_at}
+use Rattle.std.specs.Prelude.{◌≡◌, ◌≢◌, ℕ, ◌+◌, ◌≤◌, min, Bool, true, ◌||◌, ◌==◌, nat_lt, if◌then◌else◌, List, [], ◌∷◌, ◌++◌, length, drop, Option, None, Some, is_some, unwrap_or}
+use Rattle.wf_disk.specs.Disk.{Told, Only, last_count}
+use Rattle.wf_disk.specs.Strokes.{Stroke, State, Outcome, Since, image_after, left_after, are_fit, are_writes, first_state, state_after}
+use Rattle.wf_disk.specs.Arms.{fate_at}
 use Rattle.wf_disk.specs.declared.arm.Arm.{Arm}
 use Rattle.wf_disk.specs.declared.arm.Armed.{Armed}
 use Rattle.wf_disk.specs.declared.arm.Fate.{Fate}
@@ -28,6 +26,7 @@ pub record Held : Type 0 where
   pub room : ℕ
   pub writes : ℕ
 
+-- its bytes now
 abbrev pub image_of : Held → List ℕ
 image_of m = image_after m.first m.strokes
 
@@ -47,9 +46,11 @@ revived m = record (begun_anew m (left_by (unwrap_or m.stop outcomes.Keep) m)) {
 abbrev pub new_disk : Held
 new_disk = record { first = []; strokes = []; synced = 0; clock = 0; faults = 0; stop = None; arm = None; room = 0; writes = 0 }
 
+-- the same disk with this stroke from now on as the counted one
 abbrev pub armed : Held → ℕ → Arm → Held
 armed m stroke what = record m { arm = Some (record { after = m.clock; stroke = stroke; what = what }) }
 
+-- the same disk with no arm
 abbrev pub disarmed : Held → Held
 disarmed m = record m { arm = None }
 
@@ -64,18 +65,23 @@ pub record KeepsRoom (old new : Held) (bytes writes : ℕ) : Type 0 where
 
 -- a count with one more, where it doesn't stand at its greatest value
 abbrev pub one_more : ℕ → ℕ
-one_more count = min (count + 1) (2 ^ 64 - 1)
+one_more count = min (count + 1) last_count
 
--- a clock at its greatest value stops the disk for good
+-- whether it has stopped before the stroke that moves the clock to n. A clock at its end stops it for good.
+abbrev pub is_stopped_for : Held → ℕ → Bool
+is_stopped_for m n = is_some m.stop || nat_lt last_count n
+
+-- what the stroke that moves the clock to n does
+abbrev pub fate_for : Held → ℕ → Fate
+fate_for m n = if is_stopped_for m n then fate.Fails else fate_at m.arm n
+
+-- whether it has stopped now
 abbrev pub has_stopped : Held → Bool
-has_stopped m = is_some m.stop || (m.clock == 2 ^ 64 - 1)
+has_stopped m = is_stopped_for m (m.clock + 1)
 
 -- what the next stroke does
 abbrev pub fate_of : Held → Fate
-fate_of m = if has_stopped m then fate.Fails else fate_at m.arm (m.clock + 1)
-
-abbrev pub fails_at : Held → ℕ → Bool
-fails_at m n = is_some m.stop || (nat_le (2 ^ 64) n || is_counted m.arm n)
+fate_of m = fate_for m (m.clock + 1)
 
 -- one more stroke was done
 abbrev pub with_write : Held → ℕ → List ℕ → Held
@@ -87,9 +93,11 @@ with_sync m =
     if m.synced == length m.strokes then m
     else record m { strokes = m.strokes ++ Stroke.Synced ∷ []; synced = length m.strokes + 1 }
 
+-- one more stroke was made
 abbrev pub counted : Held → Held
 counted m = record m { clock = one_more m.clock }
 
+-- one more stroke was made, which failed
 abbrev pub failed : Held → Held
 failed m = record m { clock = one_more m.clock; faults = one_more m.faults }
 
@@ -105,20 +113,23 @@ after_read m = if has_stopped m then faulted m else m
 abbrev pub stopped_by : Held → CrashOutcome → Held
 stopped_by m outcome = record (failed m) { stop = Some outcome }
 
--- after a write by its fate, and after a sync
+-- after a write, by its fate
 abbrev pub after_write : Held → ℕ → List ℕ → Fate → Held
 after_write m at bytes fate.Done = counted (with_write m at bytes)
 after_write m at bytes fate.Fails = failed m
 after_write m at bytes (fate.Stops outcome) = stopped_by (with_write m at bytes) outcome
 
+-- after a sync, by its fate
 abbrev pub after_sync : Held → Fate → Held
 after_sync m fate.Done = counted (with_sync m)
 after_sync m fate.Fails = failed m
 after_sync m (fate.Stops outcome) = stopped_by m outcome
 
+-- its image, and what a crash may leave besides
 abbrev pub state_of : Held → State
 state_of m = state_after (first_state m.first) m.strokes
 
+-- what it tells as a disk
 abbrev pub told_of : Held → Told
 told_of m = record {
   image = Some (image_of m);
@@ -127,32 +138,8 @@ told_of m = record {
   moment = length m.strokes;
   may_leave = Outcome (state_of m);
   left_since = λ t c. Since (first_state m.first) t m.strokes c;
-  is_to_fail = λ n. fails_at m n ≡ true;
+  is_to_fail = λ n. fate_for m n ≢ fate.Done;
   has_room = λ writes bytes. (writes ≤ m.writes) × (bytes ≤ m.room);
-}
-
-pub image-state : (s : State) (strokes : List Stroke) → (state_after s strokes).image ≡ image_after s.image strokes
-image-state s [] = refl
-image-state s (Stroke.Wrote at bytes ∷ strokes) = image-state (after s (Stroke.Wrote at bytes)) strokes
-image-state s (Stroke.Synced ∷ strokes) = image-state (after s Stroke.Synced) strokes
-
-counts_from : (s : State) (strokes : List Stroke) (t : ℕ) (c : List ℕ) → t ≤ length strokes → Outcome (state_after s strokes) c → Since s t strokes c
-counts_from s [] t c within now = now
-counts_from s (stroke ∷ strokes) zero c within now = inr (counts_from (after s stroke) strokes zero c (omega arith) now)
-counts_from s (stroke ∷ strokes) (suc t) c within now = counts_from (after s stroke) strokes t c (omega arith) now
-
-only_at : (s : State) (strokes : List Stroke) (c : List ℕ) → Since s (length strokes) strokes c → Outcome (state_after s strokes) c
-only_at s [] c left = left
-only_at s (stroke ∷ strokes) c left = only_at (after s stroke) strokes c left
-
-same_image : (a b : List ℕ) → Some a ≡ Some b → b ≡ a
-same_image a b is = sym (ap (λ o. unwrap_or o a) is)
-
-pub lawful_memory : (m : Held) → IsLawful (told_of m)
-lawful_memory m = record {
-  stands = λ file is. inr (same_image _ _ is ∙ sym (image-state (first_state m.first) m.strokes));
-  counts_now = λ t within c now. counts_from (first_state m.first) m.strokes t c within now;
-  only_now = λ c left. only_at (first_state m.first) m.strokes c left;
 }
 
 -- what is true of the fields of a disk in memory

@@ -15,11 +15,34 @@ image_after file [] = file
 image_after file (Stroke.Wrote at bytes ∷ strokes) = image_after (put_at file at bytes) strokes
 image_after file (Stroke.Synced ∷ strokes) = image_after file strokes
 
+-- a range of a disk: where it begins, and how many bytes it has
+pub record Range : Type 0 where
+  pub at : ℕ
+  pub len : ℕ
+
+-- the ranges that these strokes write
+abbrev pub ranges_of : List Stroke → List Range
+ranges_of [] = []
+ranges_of (Stroke.Wrote at bytes ∷ strokes) = record { at = at; len = length bytes } ∷ ranges_of strokes
+ranges_of (Stroke.Synced ∷ strokes) = ranges_of strokes
+
+-- the image with each of these ranges full of 0xFF
+abbrev pub torn_over : List ℕ → List Range → List ℕ
+torn_over file [] = file
+torn_over file (range ∷ ranges) = torn_over (put_at file range.at (replicate range.len 255)) ranges
+
+-- each range begins in the image, which has so many bytes at first, and ends within the room
+abbrev pub do_fit : ℕ → ℕ → List Range → Bool
+do_fit n room [] = true
+do_fit n room (range ∷ ranges) = (nat_le range.at n && nat_le (range.at + range.len) room) && do_fit (max n (range.at + range.len)) room ranges
+
 -- the image with each range that these strokes write full of 0xFF
 abbrev pub torn_after : List ℕ → List Stroke → List ℕ
-torn_after file [] = file
-torn_after file (Stroke.Wrote at bytes ∷ strokes) = torn_after (put_at file at (replicate (length bytes) 255)) strokes
-torn_after file (Stroke.Synced ∷ strokes) = torn_after file strokes
+torn_after file strokes = torn_over file (ranges_of strokes)
+
+-- the same of the ranges that these strokes write
+abbrev pub are_fit : ℕ → ℕ → List Stroke → Bool
+are_fit n room strokes = do_fit n room (ranges_of strokes)
 
 -- what a crash leaves by its outcome, where so many of these strokes stand up to the last sync
 abbrev pub left_after : CrashOutcome → List ℕ → List Stroke → ℕ → List ℕ
@@ -32,12 +55,6 @@ abbrev pub are_writes : List Stroke → Bool
 are_writes [] = true
 are_writes (Stroke.Wrote at bytes ∷ strokes) = are_writes strokes
 are_writes (Stroke.Synced ∷ strokes) = false
-
--- each write begins in the image, which has so many bytes at first, and ends within the room
-abbrev pub are_fit : ℕ → ℕ → List Stroke → Bool
-are_fit n room [] = true
-are_fit n room (Stroke.Wrote at bytes ∷ strokes) = (nat_le at n && nat_le (at + length bytes) room) && are_fit (max n (at + length bytes)) room strokes
-are_fit n room (Stroke.Synced ∷ strokes) = are_fit n room strokes
 
 -- a disk between two strokes: its image, and what a crash may leave besides
 pub record State : Type 1 where
@@ -57,6 +74,7 @@ abbrev pub after : State → Stroke → State
 after s (Stroke.Wrote at bytes) = record { image = put_at s.image at bytes; may = λ c. (d : List ℕ) × Outcome s d × Torn at (length bytes) d c }
 after s Stroke.Synced = record { image = s.image; may = λ c. c ≡ s.image }
 
+-- after these strokes
 abbrev pub state_after : State → List Stroke → State
 state_after s [] = s
 state_after s (stroke ∷ strokes) = state_after (after s stroke) strokes

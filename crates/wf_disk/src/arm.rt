@@ -1,6 +1,6 @@
 //! What a disk in memory does at the stroke for which it is armed.
 ghost use Rattle.std.specs.Prelude.{◌≡◌, ◌+◌, ◌==◌, Option};
-ghost use Rattle.wf_disk.specs.Arms.{fate_at, fate_by};
+ghost use Rattle.wf_disk.specs.Arms.{is_counted, fate_at, fate_by};
 
 /// What a crash does to what wasn't synced.
 #[derive(Clone, Copy, Debug, PartialEq, Eq)]
@@ -22,11 +22,14 @@ pub enum Arm {
     Crash(Outcome),
 }
 
-/// An arm: the clock as it was set, and the number of the counted stroke from then on.
+/// An arm that was set: which stroke is the counted one, and what it does.
 #[derive(Clone, Copy, Debug, PartialEq, Eq)]
 pub struct Armed {
+    /// The clock as the arm was set.
     pub after: u64,
+    /// The number of the counted stroke from then on, counted from 1. A 0 counts none.
     pub stroke: u32,
+    /// What the counted stroke does.
     pub what: Arm,
 }
 
@@ -42,13 +45,14 @@ pub enum Fate {
 }
 
 impl Armed {
-    // Whether the stroke that moves the clock to this number is the counted one.
+    /// Whether the stroke that moves the clock to this number is the counted one.
     fn counts(&self, number: u64) -> bool
-        ensures { result ≡ (self.now.after + self.now.stroke == number) }
+        ensures { result ≡ is_counted self.now number }
     {
         self.after <= number && number - self.after == u64::from(self.stroke)
     }
 
+    /// What the counted stroke does.
     fn fate(&self) -> Fate
         ensures { result ≡ fate_by self.now.what }
     {

@@ -4,7 +4,8 @@ ghost use Rattle.wf_disk.specs.Disk.{put_at};
 
 use std::alloc::AllocError;
 
-/// Writes over what is there, and past the end.
+/// Writes over what is there, and past the end. In linear time in the bytes, and where there is no room for them in the
+/// image too. After an `Err` the image is as it was.
 pub fn put_over(image: &mut Vec<u8>, at: usize, bytes: &[u8]) -> Result<(), AllocError>
     requires { at ≤ length image.old.items }
     ensures ok { OnOk result (image.new.items ≡ put_at image.old.items at bytes.now) }
@@ -22,7 +23,7 @@ pub fn put_over(image: &mut Vec<u8>, at: usize, bytes: &[u8]) -> Result<(), Allo
     Ok(())
 }
 
-/// Fills a range with 0xFF, over what is there and past the end. There is room for it.
+/// Fills a range with 0xFF, over what is there and past the end. There is room for it. In linear time in `len`.
 pub fn fill_over(image: &mut Vec<u8>, at: usize, len: usize)
     requires begins { at ≤ length image.old.items }
     requires room { at + len ≤ vec_capacity image.old }

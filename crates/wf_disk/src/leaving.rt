@@ -5,7 +5,7 @@ ghost use Rattle.wf_disk.specs.Strokes.{image_after, left_after, are_fit};
 use crate::arm::Outcome;
 use crate::record::Record;
 
-/// Makes of `into`, which has room for them, these bytes.
+/// Makes of `into`, which has room for them, these bytes. In linear time in them.
 pub fn copy_over(bytes: &[u8], into: &mut Vec<u8>)
     requires { length bytes.now ≤ vec_capacity into.old }
     ensures items { into.new.items ≡ bytes.now }
@@ -16,7 +16,7 @@ pub fn copy_over(bytes: &[u8], into: &mut Vec<u8>)
     prove!(copied.is_ok());
 }
 
-// Makes the image what was synced last.
+/// Makes the image what was synced last.
 fn lose(first: &[u8], history: &Record, image: &mut Vec<u8>)
     requires room { length first.now ≤ vec_capacity image.old }
     requires fit { are_fit (length first.now) (vec_capacity image.old) (take history.now.synced history.now.strokes) ≡ true }
@@ -27,7 +27,8 @@ fn lose(first: &[u8], history: &Record, image: &mut Vec<u8>)
     history.redo_synced(image);
 }
 
-/// Makes of the image, which these strokes made of the first bytes, what a crash leaves by its outcome.
+/// Makes of the image, which these strokes made of the first bytes, what a crash leaves by its outcome. In linear time
+/// in the first bytes, in the strokes and in what they wrote, and in constant time by `Keep`.
 pub fn leave(outcome: Outcome, first: &[u8], history: &Record, image: &mut Vec<u8>)
     requires replayed { image.old.items ≡ image_after first.now history.now.strokes }
     requires fit { are_fit (length first.now) (length image.old.items) history.now.strokes ≡ true }

@@ -11,11 +11,9 @@ mod memory;
 mod record;
 mod shelf;
 #[cfg(test)]
-mod shelf_tests;
-#[cfg(test)]
 mod tests;
 
-pub use arm::{Arm, Armed, Fate, Outcome};
+pub use arm::{Arm, Outcome};
 pub use disk::{Disk, WriteRefused};
 pub use memory::MemDisk;
 pub use shelf::{DiskShelf, TakeRefused};

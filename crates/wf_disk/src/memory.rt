@@ -1,6 +1,6 @@
 //! A disk in memory, which fails and crashes where it is told to.
 ghost use Rattle.std.specs.Prelude.{◌≡◌, ◌≢◌, ◌↔◌, ◌+◌, ◌-◌, ◌≤◌, ◌^◌, ◌<◌, ℕ, Bool, true, false, Option, Some, None, List, length, take, drop, is_some, unwrap_or, IsTrue, IsOk, IsErr, IsErrOf, OnOk, OnErr, IfOk, IfSome, vec_capacity};
-ghost use Rattle.wf_disk.specs.Disk.{Told, put_at, Torn, Follows, Within, Only, Elapses, IsSame, IsDown, Strikes, GoesToPlan, HasCause};
+ghost use Rattle.wf_disk.specs.Disk.{Told, put_at, Torn, Follows, Within, Only, Elapses, IsSame, IsDown, Strikes, GoesToPlan, HasCause, last_count};
 ghost use Rattle.wf_disk.specs.declared.arm.Fate.TheVariants.{Done, Fails};
 
 use crate::arm::{Arm, Armed, Fate, Outcome, fate_at};
@@ -13,15 +13,24 @@ use std::marker::Model;
 use wf_model::{Failed, NoMemory};
 
 /// A disk in memory. It keeps a record of the strokes that were done to it, from which it tells what a crash may
-/// leave. It fails at the stroke for which it is armed and while it has stopped, and at no other call.
+/// leave. It fails at the stroke for which it is armed and while it has stopped, and at no other call. A read takes
+/// linear time in its bytes, and so does a write for which there is room; another write may copy all that the disk and
+/// its record hold.
 #[derive(Drop)]
 pub struct MemDisk {
+    /// Its bytes now.
     image: Vec<u8>,
+    /// Its bytes as the record began, with room for as many as it has now.
     first: Vec<u8>,
+    /// The record of the strokes that were done since.
     history: Record,
+    /// How many strokes were made, failed ones too. At the greatest `u64` it stands.
     clock: u64,
+    /// How often it has failed. At the greatest `u64` it stands.
     faults: u64,
+    /// Where a counted stroke has stopped it, the outcome that it takes at its revival.
     stop: Option<Outcome>,
+    /// The counted stroke, where it is armed.
     arm: Option<Armed>,
 }
 
@@ -64,7 +73,8 @@ impl MemDisk {
         }
     }
 
-    /// Replaces the arm: of the strokes from now on, counted from 1, the one with this number is the counted one.
+    /// Replaces the arm: of the strokes from now on, counted from 1, the one with this number is the counted one. A 0
+    /// counts none.
     pub fn arm(&mut self, stroke: u32, what: Arm)
         ensures { self.new ≡ armed self.old stroke what }
     {
@@ -85,13 +95,14 @@ impl MemDisk {
     /// Whether it has stopped: at a counted stroke, or since its clock stands at the greatest `u64`.
     pub fn stopped(&self) -> bool
         ensures stopped { result ≡ has_stopped self.now }
-        ensures early { result ≡ false → self.now.clock < 2 ^ 64 - 1 }
+        ensures early { result ≡ false → self.now.clock < last_count }
     {
         self.stop.is_some() || self.clock == u64::MAX
     }
 
     /// Leaves the bytes by an outcome, as a crash does, and begins the record anew. The arm stays, and so does a stop.
-    /// In linear time in what was written since the record began.
+    /// It takes no memory. In linear time in the disk's bytes, all of which it copies, in the strokes since the record
+    /// began and in what they wrote.
     pub fn crash(&mut self, outcome: Outcome)
         ensures left { IsButForRoom (begun_anew self.old (left_by outcome self.old)) self.new }
         ensures may { (told_of self.old).may_leave (image_of self.new) }
@@ -102,7 +113,7 @@ impl MemDisk {
     }
 
     /// Ends a stop. A disk that a counted stroke stopped takes the outcome now, another one keeps its bytes, and the
-    /// record begins anew.
+    /// record begins anew. In linear time, as `crash`.
     pub fn revive(&mut self)
         ensures left { IsButForRoom (revived self.old) self.new }
         ensures may { (told_of self.old).may_leave (image_of self.new) }
@@ -112,7 +123,8 @@ impl MemDisk {
         self.stop = None;
     }
 
-    /// Makes room: the next `writes` writes want no memory as long as they have at most `bytes` bytes in all.
+    /// Makes room: the next `writes` writes want no memory as long as they have at most `bytes` bytes in all. After a
+    /// refusal there is at least the room that there was. It may copy all that the disk and its record hold.
     pub fn reserve(&mut self, bytes: u64, writes: u32) -> Result<(), NoMemory>
         ensures same { IsButForRoom self.old self.new }
         ensures room { OnOk result ((told_of self.new).has_room writes bytes) }
@@ -122,6 +134,7 @@ impl MemDisk {
         Ok(())
     }
 
+    /// Makes room for so many writes, of so many bytes in all. After an `Err` there is at least the room that there was.
     fn make_room(&mut self, bytes: usize, writes: u32) -> Result<(), AllocError>
         ensures same { IsButForRoom self.old self.new }
         ensures room { OnOk result ((bytes ≤ self.new.room) × (writes ≤ self.new.writes)) }
@@ -134,7 +147,7 @@ impl MemDisk {
         self.history.reserve(bytes, writes)
     }
 
-    // Does a write, for which there is room.
+    /// Does a write, for which there is room.
     fn write_over(&mut self, at: u64, bytes: &[u8])
         requires begins { at ≤ length (image_of self.old) }
         requires room { length bytes.now ≤ self.old.room }
@@ -147,7 +160,7 @@ impl MemDisk {
         self.history.add_write(at, bytes);
     }
 
-    // Does a write.
+    /// Does a write.
     fn do_write(&mut self, at: u64, bytes: &[u8]) -> Result<(), AllocError>
         requires begins { at ≤ length (image_of self.old) }
         ensures ok { OnOk result (IsButForRoom (with_write self.old at bytes.now) self.new) }
@@ -160,7 +173,7 @@ impl MemDisk {
         Ok(())
     }
 
-    // Does a sync.
+    /// Does a sync.
     fn do_sync(&mut self)
         ensures synced { IsButForRoom (with_sync self.old) self.new }
         ensures room { KeepsRoom self.old self.new 0 0 }
@@ -171,7 +184,7 @@ impl MemDisk {
         }
     }
 
-    // Counts a stroke.
+    /// Counts a stroke.
     fn count(&mut self)
         ensures next { self.new ≡ counted self.old }
         ensures range { self.old.clock < 2 ^ 64 }
@@ -179,7 +192,7 @@ impl MemDisk {
         self.clock = self.clock.saturating_add(1);
     }
 
-    // Counts a stroke that fails.
+    /// Counts a stroke that fails.
     fn count_failed(&mut self)
         ensures next { self.new ≡ failed self.old }
         ensures range { (self.old.clock < 2 ^ 64) × (self.old.faults < 2 ^ 64) }
@@ -188,7 +201,7 @@ impl MemDisk {
         self.faults = self.faults.saturating_add(1);
     }
 
-    // Stops at a counted stroke.
+    /// Stops at a counted stroke.
     fn stop_by(&mut self, outcome: Outcome)
         ensures next { self.new ≡ stopped_by self.old outcome }
         ensures range { (self.old.clock < 2 ^ 64) × (self.old.faults < 2 ^ 64) }
@@ -197,17 +210,17 @@ impl MemDisk {
         self.stop = Some(outcome);
     }
 
-    // Counts a call that failed and is no stroke.
+    /// Counts a call that failed and is no stroke.
     fn count_fault(&mut self)
         ensures { self.new ≡ faulted self.old }
     {
         self.faults = self.faults.saturating_add(1);
     }
 
-    // What the next stroke does.
+    /// What the next stroke does.
     fn fate(&self) -> Fate
         ensures fate { result ≡ fate_of self.now }
-        ensures early { result ≢ Fails → self.now.clock < 2 ^ 64 - 1 }
+        ensures early { result ≢ Fails → self.now.clock < last_count }
     {
         if self.stopped() {
             return Fate::Fails;
@@ -217,7 +230,8 @@ impl MemDisk {
 }
 
 impl Disk for MemDisk {
-    ghost use Rattle.wf_disk.specs.Memory.{told_of, lawful_memory, image_of, after_read, after_write, after_sync, fate_of, has_stopped, IsButForRoom};
+    ghost use Rattle.wf_disk.specs.MemoryLaws.{lawful_memory};
+    ghost use Rattle.wf_disk.specs.Memory.{told_of, image_of, after_read, after_write, after_sync, fate_of, has_stopped, IsButForRoom};
 
     ghost told = { told_of };
 

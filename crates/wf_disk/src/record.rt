@@ -31,7 +31,9 @@ fn extend_in_room(written: &mut Vec<u8>, bytes: &[u8])
 /// The strokes that were done to a disk since some moment.
 #[derive(Drop)]
 pub struct Record {
+    /// The strokes, in order.
     entries: Vec<Entry>,
+    /// The bytes of all writes, in order.
     written: Vec<u8>,
     /// How many of the entries stand up to the last sync.
     synced: usize,
@@ -73,7 +75,8 @@ impl Record {
         self.synced == self.entries.len()
     }
 
-    /// Makes room for writes of so many bytes in all, and for the syncs after them.
+    /// Makes room for writes of so many bytes in all, and for the syncs after them. It may copy the record. After an
+    /// `Err` there is at least the room that there was.
     pub fn reserve(&mut self, bytes: usize, writes: u32) -> Result<(), AllocError>
         ensures strokes { self.new.strokes ≡ self.old.strokes }
         ensures synced { self.new.synced ≡ self.old.synced }

@@ -1,3 +1,4 @@
+//! A disk in memory: what a crash leaves of it, the counted stroke, and the room for writes.
 use crate::{Arm, Disk, MemDisk, Outcome, WriteRefused};
 use std::test::Fail;
 use wf_model::Failed;

@@ -9,6 +9,7 @@ use Rattle.wf_codec.specs.declared.fault.RecordFault.{RecordFault}
 use Rattle.wf_codec.specs.declared.fault.RecordFault.TheVariants as records
 use Rattle.wf_codec.specs.declared.record.JournalRecord.{JournalRecord}
 
+-- the update with its length, or its fault
 abbrev pub Answers : Result (Update × ℕ) CodecFault → Result (Update × ℕ) CodecFault → Type 0
 Answers (Ok x) wanted = wanted ≡ Ok x
 Answers (Err codec.NoMemory) wanted = Unit {0}
@@ -16,6 +17,7 @@ Answers (Err codec.Short) wanted = wanted ≡ Err codec.Short
 Answers (Err codec.BadTag) wanted = wanted ≡ Err codec.BadTag
 Answers (Err (codec.BadField at)) wanted = wanted ≡ Err (codec.BadField at)
 
+-- the record, or that there is none
 abbrev pub AnswersRecord : Result JournalRecord RecordFault → Option JournalRecord → Type 0
 AnswersRecord (Ok r) wanted = wanted ≡ Some r
 AnswersRecord (Err records.NoMemory) wanted = Unit {0}

@@ -25,16 +25,19 @@ use Rattle.wf_codec.specs.declared.update.TheConstants.{TAG}
 use Rattle.wf_codec.specs.Ranges.{chart_numbers}
 use Rattle.wf_codec.specs.Reading.{◌>>=◌, byte_in, number_in, eight_at, items_at, bytes_that, least_after}
 
+-- a truth behind its sort
 unfoldable pub bool_at : List ℕ → Result (Val × List ℕ) Misfit
 bool_at bytes = do
   b ← byte_in 0 2 bytes
   Ok (v.Bool (b.0 == 1), b.1)
 
+-- an integer behind its sort
 unfoldable pub int_at : List ℕ → Result (Val × List ℕ) Misfit
 int_at bytes = do
   n ← eight_at bytes
   Ok (v.Int (cast_signed w64 n.0), n.1)
 
+-- a text behind its sort
 unfoldable pub text_at : List ℕ → Result (Val × List ℕ) Misfit
 text_at bytes = do
   len ← byte_in 0 (MAX_TEXT + 1) bytes
@@ -47,22 +50,27 @@ value_at bytes = do
   sort ← byte_in BOOL (TEXT + 1) bytes
   if sort.0 == BOOL then bool_at sort.1 else (if sort.0 == INT then int_at sort.1 else text_at sort.1)
 
--- The items of lists. Some of their own numbers are below limits, and an item may not be before the one that it follows.
+-- The items of lists, each behind the one before it, if there is one, and in an order.
+
+-- a state over the one before it
 unfoldable pub state_at : Option StateId → List ℕ → Result (StateId × List ℕ) Misfit
 state_at before bytes = do
   n ← number_in w16 (least_after (λ s. s.0) before) MAX_STATES bytes
   Ok (record { 0 = n.0 }, n.1)
 
+-- an event over the one before it
 unfoldable pub event_at : Numbers → Option EventId → List ℕ → Result (EventId × List ℕ) Misfit
 event_at numbers before bytes = do
   n ← number_in w16 (least_after (λ e. e.0) before) numbers.events bytes
   Ok (record { 0 = n.0 }, n.1)
 
+-- a transition over the one before it
 unfoldable pub trans_at : Option TransId → List ℕ → Result (TransId × List ℕ) Misfit
 trans_at before bytes = do
   n ← number_in w16 (least_after (λ t. t.0) before) MAX_TRANSITIONS bytes
   Ok (record { 0 = n.0 }, n.1)
 
+-- a write of a variable over that of the write before it
 unfoldable pub write_at : Numbers → Option Write → List ℕ → Result (Write × List ℕ) Misfit
 write_at numbers before bytes = do
   var ← number_in w16 (least_after (λ w. w.var.0) before) numbers.vars bytes
@@ -70,15 +78,17 @@ write_at numbers before bytes = do
   val ← value_at trans.1
   Ok (record { var = record { 0 = var.0 }; trans = record { 0 = trans.0 }; val = val.0 }, val.1)
 
--- the least transition of a start that may follow, and of such a transition the least place
+-- the least transition of a start that may follow
 abbrev pub least_trans : Option StartAt → ℕ
 least_trans None = 0
 least_trans (Some s) = s.trans.0
 
+-- the least place of a start that may follow, where it is of this transition
 abbrev pub least_place : Option StartAt → ℕ → ℕ
 least_place None t = 0
 least_place (Some s) t = if s.trans.0 == t then suc s.place else 0
 
+-- a start by a later action than the one before it: of a later transition, or at a later place of the same one
 unfoldable pub start_at : Numbers → Option StartAt → List ℕ → Result (StartAt × List ℕ) Misfit
 start_at numbers before bytes = do
   act ← number_in w16 0 numbers.acts bytes
@@ -86,17 +96,20 @@ start_at numbers before bytes = do
   place ← byte_in (least_place before trans.0) MAX_ACTIONS trans.1
   Ok (record { act = record { 0 = act.0 }; trans = record { 0 = trans.0 }; place = place.0 }, place.1)
 
+-- an output of any variable
 unfoldable pub output_at : Numbers → Option Output → List ℕ → Result (Output × List ℕ) Misfit
 output_at numbers before bytes = do
   var ← number_in w16 0 numbers.vars bytes
   val ← value_at var.1
   Ok (record { var = record { 0 = var.0 }; val = val.0 }, val.1)
 
+-- an event that happens, behind its kind
 unfoldable pub happening_at : Numbers → List ℕ → Result (Outer × List ℕ) Misfit
 happening_at numbers bytes = do
   event ← number_in w16 0 numbers.events bytes
   Ok (Happen (record { 0 = event.0 }), event.1)
 
+-- an item that is completed, behind its kind
 unfoldable pub completion_at : Numbers → List ℕ → Result (Outer × List ℕ) Misfit
 completion_at numbers bytes = do
   item ← number_in w32 1 (2 ^ 32) bytes
@@ -137,6 +150,7 @@ told len (Ok (u, rest)) = Ok (u, len - length rest)
 told len (Err Short) = Err codec.Short
 told len (Err (Bad left)) = Err (codec.BadField (len - left))
 
+-- the update that begins the bytes, or what is wrong with them
 unfoldable pub decoded : List ℕ → Result (Update × ℕ) CodecFault
 decoded [] = Err codec.Short
 decoded (tag ∷ rest) = if tag == TAG then told (suc (length rest)) (update_at chart_numbers None (tag ∷ rest)) else Err codec.BadTag

@@ -28,9 +28,11 @@ Ascend number xs = InOrder (λ x y. number x < number y) xs
 abbrev pub IsEarlier : StartAt → StartAt → Type 0
 IsEarlier a b = (a.trans.0 < b.trans.0) ⊎ ((a.trans.0 ≡ b.trans.0) × (a.place < b.place))
 
+-- a write with its numbers in their ranges
 abbrev pub IsWrite : Write → Type 0
 IsWrite w = (w.var.0 < MAX_VARS) × (w.trans.0 < MAX_TRANSITIONS)
 
+-- a start with its numbers in their ranges
 abbrev pub IsStart : StartAt → Type 0
 IsStart s = (s.act.0 < MAX_ACTS) × (s.trans.0 < MAX_TRANSITIONS) × (s.place < MAX_ACTIONS)
 
@@ -74,10 +76,12 @@ IsHeldValue (v.Bool b) = Unit {0}
 IsHeldValue (v.Int z) = FitsSigned w64 z
 IsHeldValue (v.Text cs) = (length cs ≤ MAX_TEXT) × IsTrue (is_text cs)
 
+-- an item of 32 bits, and outputs with such values
 abbrev pub IsHeldOuter : Outer → Type 0
 IsHeldOuter (Happen e) = Unit {0}
 IsHeldOuter (Complete item act outputs) = (item < 2 ^ 32) × AllByRecursion (λ o. IsHeldValue o.val) outputs
 
+-- writes with such values, and such outers
 abbrev pub IsHeld : Update → Type 0
 IsHeld u = AllByRecursion (λ w. IsHeldValue w.val) u.writes × AllByRecursion IsHeldOuter u.outer
 

@@ -12,11 +12,12 @@ abbrev pub ◌>>=◌ : {A B : Type 0} → Result A Misfit → (A → Result B Mi
 (Ok x) >>= f = f x
 (Err e) >>= f = Err e
 
--- what a function answered, seen so, is what reading gives, unless memory ran out
+-- a function failed as reading does, unless memory ran out
 abbrev pub Fails : {Y : Type 0} → FieldFault → Result Y Misfit → Type 0
 Fails fault.NoMemory read = Unit {0}
 Fails (fault.Misfit misfit) read = read ≡ Err misfit
 
+-- what a function answered, seen so, is what reading gives, unless memory ran out
 abbrev pub Gives : {X Y : Type 0} → (X → Y) → Result X FieldFault → Result Y Misfit → Type 0
 Gives view (Ok x) read = read ≡ Ok (view x)
 Gives view (Err e) read = Fails e read
@@ -25,10 +26,11 @@ Gives view (Err e) read = Fails e read
 abbrev pub Reads : {X : Type 0} → Result (X × Bor (List ℕ)) FieldFault → Result (X × List ℕ) Misfit → Type 0
 Reads result reading = Gives (λ x. (x.0, x.1.now)) result reading
 
--- a number is in its range from the least on and below the limit; else its field is bad, and its first byte has so many from it on
+-- a number is in its range, from the least on and below the limit
 abbrev pub is_within : ℕ → ℕ → ℕ → Bool
 is_within least limit n = nat_le least n && nat_lt n limit
 
+-- the number and what is behind it, or that its field is bad, with how many bytes there are from its first one on
 abbrev pub ranged : ℕ → ℕ → List ℕ → ℕ → List ℕ → Result (ℕ × List ℕ) Misfit
 ranged least limit bytes n rest = if is_within least limit n then Ok (n, rest) else Err (Bad (length bytes))
 

@@ -22,6 +22,7 @@ is_head_char c = is_word_char c || (c == 45)
 abbrev pub named : List ℕ → List ℕ
 named cs = length cs ∷ cs
 
+-- a tag and the fields
 unfoldable pub record_spelling : JournalRecord → List ℕ
 record_spelling (Head version chart unit) = HEAD ∷ version ∷ named chart ++ named unit
 record_spelling (Admit request outer) = ADMIT ∷ eight request ++ outer_spelling outer
@@ -47,11 +48,13 @@ IsHeldRecord (Turn step inputs sealed) = (step < 2 ^ 32) × AllByRecursion IsHel
 abbrev pub IsRecord : JournalRecord → Type 0
 IsRecord r = IsRecordInRange r × IsHeldRecord r
 
+-- a name behind its length
 unfoldable pub head_name_at : List ℕ → Result (List ℕ × List ℕ) Misfit
 head_name_at bytes = do
   len ← byte_in 1 (MAX_NAME + 1) bytes
   bytes_that is_head_char len.0 len.1
 
+-- a head behind its tag
 unfoldable pub head_at : List ℕ → Result (JournalRecord × List ℕ) Misfit
 head_at bytes = do
   version ← byte_in 1 2 bytes
@@ -59,12 +62,14 @@ head_at bytes = do
   unit ← head_name_at chart.1
   Ok (Head version.0 chart.0 unit.0, unit.1)
 
+-- an admission behind its tag
 unfoldable pub admit_at : List ℕ → Result (JournalRecord × List ℕ) Misfit
 admit_at bytes = do
   request ← eight_at bytes
   outer ← outer_at any_numbers None request.1
   Ok (Admit request.0 outer.0, outer.1)
 
+-- a turn behind its tag
 unfoldable pub turn_at : List ℕ → Result (JournalRecord × List ℕ) Misfit
 turn_at bytes = do
   step ← number_in w32 0 (2 ^ 32) bytes
@@ -84,5 +89,6 @@ whole (Ok (r, [])) = Some r
 whole (Ok (r, b ∷ rest)) = None
 whole (Err misfit) = None
 
+-- the record that has this body
 unfoldable pub record_of : List ℕ → Option JournalRecord
 record_of body = whole (record_at body)

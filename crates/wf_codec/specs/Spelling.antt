@@ -17,13 +17,15 @@ use Rattle.wf_codec.specs.declared.value.TheConstants.{BOOL, INT, TEXT}
 use Rattle.wf_codec.specs.declared.outer.TheConstants.{HAPPEN, COMPLETE}
 use Rattle.wf_codec.specs.declared.update.TheConstants.{TAG}
 
--- a number of two, four and eight bytes
+-- a number of two bytes
 abbrev pub two : ℕ → List ℕ
 two n = to_be_bytes w16 n
 
+-- a number of four bytes
 abbrev pub four : ℕ → List ℕ
 four n = to_be_bytes w32 n
 
+-- a number of eight bytes
 abbrev pub eight : ℕ → List ℕ
 eight n = to_be_bytes w64 n
 
@@ -38,21 +40,27 @@ value_spelling (v.Bool b) = BOOL ∷ truth b ∷ []
 value_spelling (v.Int z) = INT ∷ eight (cast_unsigned w64 z)
 value_spelling (v.Text cs) = TEXT ∷ length cs ∷ cs
 
+-- its number
 abbrev pub state_spelling : StateId → List ℕ
 state_spelling s = two s.0
 
+-- its number
 abbrev pub event_spelling : EventId → List ℕ
 event_spelling e = two e.0
 
+-- its number
 abbrev pub trans_spelling : TransId → List ℕ
 trans_spelling t = two t.0
 
+-- the variable, the transition that wrote it, and the value
 abbrev pub write_spelling : Write → List ℕ
 write_spelling w = two w.var.0 ++ (two w.trans.0 ++ value_spelling w.val)
 
+-- the activity, the transition, and the place of the action
 abbrev pub start_spelling : StartAt → List ℕ
 start_spelling s = two s.act.0 ++ (two s.trans.0 ++ s.place ∷ [])
 
+-- the variable and the value
 abbrev pub output_spelling : Output → List ℕ
 output_spelling o = two o.var.0 ++ value_spelling o.val
 

@@ -5,3 +5,4 @@ mod Puts
 mod Starts
 mod Refusals
 mod StepLaws
+mod Spelled

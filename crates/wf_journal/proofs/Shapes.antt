@@ -20,37 +20,44 @@ breaks-skip : (xs ys : List ℕ) → breaks_after (length xs) (xs ++ ys) ≡ bre
 breaks-skip [] ys = refl
 breaks-skip (x ∷ xs) ys = breaks-skip xs ys
 
--- one open frame and a closed gate
-module _ (body : List ℕ) (some : 1 ≤ length body) (most : length body ≤ MAX_BODY) (more : List ℕ) where
-  abbrev tail : List ℕ
-  tail = packed body ++ 0 ∷ more
-
+-- an open frame in front
+module _ (body : List ℕ) (some : 1 ≤ length body) (most : length body ≤ MAX_BODY) (rest : List ℕ) (more : 0 < length rest) where
   abbrev n : ℕ
   n = from_be_bytes w32 (to_be_bytes w32 (length body))
 
   is_n : n ≡ length body
   is_n = from_be_bytes-to_be_bytes_4 (length body) (omega (arith, most))
 
-  fits_here : fits (length body) (body ++ 0 ∷ more) ≡ true
+  fits_here : fits (length body) (body ++ rest) ≡ true
   fits_here =
-      let inside : length body < length (body ++ 0 ∷ more) = omega (arith, length-append body (0 ∷ more)) in
+      let inside : length body < length (body ++ rest) = omega (arith, length-append body rest, more) in
       search (rules, some, most, inside)
 
-  fits_n : fits n (body ++ 0 ∷ more) ≡ true
-  fits_n = ap (λ k. fits k (body ++ 0 ∷ more)) is_n ∙ fits_here
+  fits_n : fits n (body ++ rest) ≡ true
+  fits_n = ap (λ k. fits k (body ++ rest)) is_n ∙ fits_here
 
-  pub bodies-one : bodies_after 0 (1 ∷ tail) ≡ body ∷ []
-  bodies-one =
-      cond-true _ _ _ fits_n ∙ ap (λ k. take k (body ++ 0 ∷ more) ∷ bodies_after k (body ++ 0 ∷ more)) is_n
-      ∙ ap (λ l. l ∷ bodies_after (length body) (body ++ 0 ∷ more)) (take_at body (0 ∷ more) (length body) refl)
-      ∙ ap (λ l. body ∷ l) (bodies-skip body (0 ∷ more) ∙ bodies-closed 0 more refl)
+  pub bodies-front : bodies_after 0 (1 ∷ (packed body ++ rest)) ≡ body ∷ bodies_after 0 rest
+  bodies-front =
+      cond-true _ _ _ fits_n ∙ ap (λ k. take k (body ++ rest) ∷ bodies_after k (body ++ rest)) is_n
+      ∙ ap (λ l. l ∷ bodies_after (length body) (body ++ rest)) (take_at body rest (length body) refl)
+      ∙ ap (λ l. body ∷ l) (bodies-skip body rest)
 
-  pub end-one : end_after 0 (1 ∷ tail) ≡ 5 + length body
-  end-one = cond-true _ _ _ fits_n ∙ ap (λ k. suc (suc (suc (suc (suc (end_after k (body ++ 0 ∷ more))))))) is_n
-      ∙ omega (arith, end-skip body (0 ∷ more), end-closed 0 more refl)
+  pub end-front : end_after 0 (1 ∷ (packed body ++ rest)) ≡ 5 + length body + end_after 0 rest
+  end-front = cond-true _ _ _ fits_n ∙ ap (λ k. suc (suc (suc (suc (suc (end_after k (body ++ rest))))))) is_n ∙ omega (arith, end-skip body rest)
 
-  pub breaks-one : breaks_after 0 (1 ∷ tail) ≡ false
-  breaks-one = cond-true _ _ _ fits_n ∙ ap (λ k. breaks_after k (body ++ 0 ∷ more)) is_n ∙ breaks-skip body (0 ∷ more) ∙ breaks-closed 0 more refl
+  pub breaks-front : breaks_after 0 (1 ∷ (packed body ++ rest)) ≡ breaks_after 0 rest
+  breaks-front = cond-true _ _ _ fits_n ∙ ap (λ k. breaks_after k (body ++ rest)) is_n ∙ breaks-skip body rest
+
+-- one open frame and a closed gate
+module _ (body : List ℕ) (some : 1 ≤ length body) (most : length body ≤ MAX_BODY) (more : List ℕ) where
+  bodies-one : bodies_after 0 (1 ∷ (packed body ++ 0 ∷ more)) ≡ body ∷ []
+  bodies-one = bodies-front body some most (0 ∷ more) (omega arith) ∙ ap (λ l. body ∷ l) (bodies-closed 0 more refl)
+
+  end-one : end_after 0 (1 ∷ (packed body ++ 0 ∷ more)) ≡ 5 + length body
+  end-one = end-front body some most (0 ∷ more) (omega arith) ∙ omega (arith, end-closed 0 more refl)
+
+  breaks-one : breaks_after 0 (1 ∷ (packed body ++ 0 ∷ more)) ≡ false
+  breaks-one = breaks-front body some most (0 ∷ more) (omega arith) ∙ breaks-closed 0 more refl
 
 -- THE FILE AT REST
 module _ (file : List ℕ) (place : ℕ) (rests : IsAtRest file place) where

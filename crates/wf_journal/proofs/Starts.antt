@@ -1,12 +1,12 @@
 -- What a crash may leave while a journal is started.
-use Rattle.std.proofs.Common.{◌≡◌, ℕ, ◌+◌, ◌≤◌, true, not, ◌||◌, nat_lt, List, [], ◌∷◌, length, drop, Some, IfSome, Result, Ok, Err, IfErr, refl, sym, ◌∙◌, ap, subst, arith, rules}
+use Rattle.std.proofs.Common.{◌≡◌, ℕ, ◌+◌, ◌≤◌, ◌<◌, true, not, ◌||◌, nat_lt, List, [], ◌∷◌, length, drop, Option, None, Some, IfSome, is_some, Result, Ok, Err, IfErr, refl, sym, ◌∙◌, ap, subst, arith, rules}
 use Rattle.std.proofs.lemmas.List.{append-nil, drop_all}
-use Rattle.wf_disk.specs.Disk.{Told, put_at, Torn, Follows, Within, Only, Elapses, IsLawful, LeavesOnly}
+use Rattle.wf_disk.specs.Disk.{Told, put_at, Torn, Follows, Within, Only, IsSame, Elapses, IsLawful, LeavesOnly}
 use Rattle.wf_disk.proofs.Runs.{started, goes_on, from_some}
 use Rattle.wf_journal.specs.declared.fault.StartFault.{StartFault}
 use Rattle.wf_journal.specs.declared.fault.StartFault.TheVariants.{BadFrame}
 use Rattle.wf_journal.specs.Frames.{bodies_of, end_of, is_broken, can_start, IsAtRest}
-use Rattle.wf_journal.specs.Journal.{IsLeftAs, HasBodiesOf}
+use Rattle.wf_journal.specs.Journal.{IsLeftAs, IsLeft, HasBodiesOf, KeepsBodies, IsPlace}
 
 pub short_bodies : (c : List ℕ) → length c ≤ 1 → bodies_of c ≡ []
 unfolding bodies_of
@@ -16,6 +16,55 @@ short_bodies (a ∷ b ∷ c) short = absurd (omega arith)
 
 pub short_starts : (c : List ℕ) → length c ≤ 1 → can_start c ≡ true
 short_starts c short = let few : nat_lt (length c) 2 ≡ true = search (rules, short) in ap (λ t. t || not (is_broken c)) few
+
+-- a torn write of one byte to a file of no byte or one
+pub written_small : (file : List ℕ) (t2 t3 : Told) → Only file t2.may_leave → length file ≤ 1 → Follows (Torn 0 1) t2.may_leave t3.may_leave → (c : List ℕ) → t3.may_leave c → length c ≤ 1
+written_small file t2 t3 only2 short follows c now =
+    let from = follows c now in
+    let torn : Torn 0 1 file c = subst (λ f. Torn 0 1 f c) (only2 from.0 from.1) from.2 in
+    omega (arith, torn.no_longer, short)
+
+same_image : (a b : List ℕ) → Some a ≡ Some b → a ≡ b
+same_image a b is = cc is
+
+-- the image as it was
+pub kept_same : (old new : Told) → new.image ≡ old.image → KeepsBodies old new
+kept_same old new same = record {
+  tells = ap (λ (o : Option (List ℕ)). is_some o) same;
+  bodies = λ old_file new_file was is. ap bodies_of (same_image new_file old_file (sym is ∙ same ∙ was));
+  same = λ file was long. same ∙ was;
+}
+
+-- a file of no byte or one, over which one was written
+pub kept_written : (t0 t1 t2 t3 t4 : Told) (size : ℕ) → IsLawful t3 → t1.image ≡ t0.image → IfSome t0.image (λ f. Only f t1.may_leave) → IfSome t1.image (λ f. size ≡ length f) → size < 2 → IsSame t1 t2
+    → is_some t3.image ≡ is_some t2.image → Follows (Torn 0 1) t2.may_leave t3.may_leave → t4.image ≡ t3.image → KeepsBodies t0 t4
+kept_written t0 t1 t2 t3 t4 size law image1 synced known few same tells follows image4 = record {
+  tells = ap (λ (o : Option (List ℕ)). is_some o) image4 ∙ tells ∙ ap (λ (o : Option (List ℕ)). is_some o) (same.image ∙ image1);
+  bodies = λ old_file new_file was is.
+      let only1 : Only old_file t1.may_leave = from_some t0.image (λ f. Only f t1.may_leave) old_file synced was in
+      let short = short_at old_file was in
+      let small : length new_file ≤ 1 = written_small old_file t2 t3 (λ f now. only1 f (same.crash f now)) short follows new_file (law.stands new_file (sym image4 ∙ is)) in
+      short_bodies new_file small ∙ sym (short_bodies old_file short);
+  same = λ file was long. let short = short_at file was in absurd (omega (arith, short, long));
+}
+  where
+    short_at : (file : List ℕ) → t0.image ≡ Some file → length file ≤ 1
+    short_at file was = let is_size : size ≡ length file = from_some t1.image (λ f. size ≡ length f) file known (image1 ∙ was) in omega (arith, is_size, few)
+
+-- a read of a file at rest can begin at its front
+pub begins : (file : List ℕ) (place : ℕ) → IsAtRest file place → IsPlace file 0
+unfolding end_of is_broken
+begins file place rests = record { end = omega arith; whole = rests.whole; within = omega (arith, rests.within) }
+
+pub left_begins : (t0 t1 : Told) (place : ℕ) (more : List (List ℕ)) → IsLeft t0 t1 place more → is_some t1.image ≡ is_some t0.image → (file : List ℕ) → t1.image ≡ Some file → IsPlace file 0
+left_begins t0 t1 place more left tells file is = go t0.image refl
+  where
+    go : (o : Option (List ℕ)) → t0.image ≡ o → IsPlace file 0
+    go None was = absurd (search (rules, tells, is, was))
+    go (Some old) was =
+        let new = left old was in
+        let same : new.0 ≡ file = same_image new.0 file (sym new.1.image ∙ is) in
+        subst (λ f. IsPlace f 0) same (begins new.0 place new.1.settled.rests)
 
 one_gate : IsAtRest (0 ∷ []) 0
 unfolding is_broken end_of
@@ -50,9 +99,7 @@ module _ (t0 : Told) (file : List ℕ) (law : IsLawful t0) (is : t0.image ≡ So
   module _ (t2 : Told) (so_far : LeavesOnly t0 t2 P) (only2 : Only file t2.may_leave) (short : length file ≤ 1) (t3 : Told) (follows : Follows (Torn 0 1) t2.may_leave t3.may_leave) (time3 : Elapses t2 t3) where
     after_write : (c : List ℕ) → t3.may_leave c → P c
     after_write c now =
-        let from = follows c now in
-        let torn : Torn 0 1 file c = subst (λ f. Torn 0 1 f c) (only2 from.0 from.1) from.2 in
-        let small : length c ≤ 1 = omega (arith, torn.no_longer, short) in
+        let small : length c ≤ 1 = written_small file t2 t3 only2 short follows c now in
         (file, law.stands file is, short_bodies c small ∙ sym (short_bodies file short), λ starts. short_starts c small)
 
     pub written : LeavesOnly t0 t3 P

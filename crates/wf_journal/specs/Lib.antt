@@ -1,5 +1,6 @@
 pub mod Faults
 pub mod Frames
 pub mod Journal
+pub mod Laws
 pub mod State
 pub mod StepAt

@@ -2,10 +2,11 @@
 ghost use Rattle.std.specs.Prelude.{◌≡◌, ◌+◌, ◌≤◌, ◌<◌, ◌∷◌, [], ℕ, List, Some, OnOk, IsOk, IsErrOf, is_some, length, vec_capacity};
 ghost use Rattle.wf_disk.specs.Disk.{HasCause, IsSafeFor, LeavesOnly};
 ghost use Rattle.wf_model.specs.declared.limits.TheConstants.{MAX_BODY, MAX_JOURNAL};
+ghost use Rattle.wf_journal.specs.declared.frame.TheConstants.{HEADER};
 ghost use Rattle.wf_journal.specs.Frames.{bodies_of, IsAsBefore, IsBeforeOrAfter};
 ghost use Rattle.wf_journal.specs.Journal.{IsSettled, IsLeft};
 
-use crate::frame::pack;
+use crate::frame::{OPEN, pack};
 use wf_disk::{Disk, WriteRefused};
 
 /// Writes a frame behind the closed gate, and then opens the gate.
@@ -13,14 +14,14 @@ pub fn put<D: Disk>(
     disk: &mut D,
     place: u64,
     body: &[u8],
-    room: &mut Vec<u8>,
+    frame: &mut Vec<u8>,
 ) -> Result<(), WriteRefused>
     requires some { 1 ≤ length body.now }
     requires most { length body.now ≤ MAX_BODY }
     requires fits { place + length body.now + 6 ≤ MAX_JOURNAL }
     requires settled { IsSettled (D.told disk.old) place }
 
-    ensures ok { OnOk result (IsLeft (D.told disk.old) (D.told disk.new) (place + (5 + length body.now)) (body.now ∷ [])) }
+    ensures ok { OnOk result (IsLeft (D.told disk.old) (D.told disk.new) (place + (HEADER + length body.now)) (body.now ∷ [])) }
     ensures no_memory { IsErrOf result WriteRefused.NoMemory → IsLeft (D.told disk.old) (D.told disk.new) place [] }
     ensures any_moment { (file : List ℕ) → (D.told disk.old).image ≡ Some file →
         LeavesOnly (D.told disk.old) (D.told disk.new) (IsBeforeOrAfter (bodies_of file) body.now) }
@@ -29,15 +30,15 @@ pub fn put<D: Disk>(
     ensures tells { is_some (D.told disk.new).image ≡ is_some (D.told disk.old).image }
     ensures four { OnOk result ((D.told disk.new).clock ≡ (D.told disk.old).clock + 4) }
     ensures two { IsErrOf result WriteRefused.NoMemory → (D.told disk.new).clock ≤ (D.told disk.old).clock + 2 }
-    ensures good { IsSafeFor (D.told disk.old) 4 → (D.told disk.old).has_room 2 (length body.now + 6) → length body.now + 5 ≤ vec_capacity room.old → IsOk result }
+    ensures good { IsSafeFor (D.told disk.old) 4 → (D.told disk.old).has_room 2 (length body.now + 6) → HEADER + length body.now ≤ vec_capacity frame.old → IsOk result }
+    ensures enough { (D.told disk.old).has_room 2 (length body.now + 6) → HEADER + length body.now ≤ vec_capacity frame.old → IsErrOf result WriteRefused.NoMemory → ⊥ }
+    ensures capacity { vec_capacity frame.old ≤ vec_capacity frame.new }
     ensures cause { HasCause (D.told disk.old) (D.told disk.new) (IsErrOf result WriteRefused.Failed) }
 {
-    if pack(room, body).is_err() {
-        return Err(WriteRefused::NoMemory);
-    }
-    disk.write_at(place + 1, room)?;
+    pack(frame, body)?;
+    disk.write_at(place + 1, frame)?;
     disk.sync()?;
-    disk.write_at(place, &[1])?;
+    disk.write_at(place, &[OPEN])?;
     disk.sync()?;
     Ok(())
 }

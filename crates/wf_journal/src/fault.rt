@@ -4,6 +4,7 @@ ghost use Rattle.wf_journal.specs.Faults.{start_fault};
 ghost use Rattle.wf_journal.specs.declared.fault.ReadFault.TheVariants as read;
 ghost use Rattle.wf_journal.specs.declared.fault.StartFault.TheVariants as start;
 
+use std::alloc::AllocError;
 use thiserror::Error;
 use wf_disk::WriteRefused;
 use wf_model::Failed;
@@ -77,5 +78,13 @@ impl From<Failed> for ReadFault {
 
     fn from(_: Failed) -> ReadFault {
         ReadFault::DiskFailed
+    }
+}
+
+impl From<AllocError> for ReadFault {
+    ghost from_gives = { λ _ fault. fault ≡ read.NoMemory };
+
+    fn from(_: AllocError) -> ReadFault {
+        ReadFault::NoMemory
     }
 }

@@ -1,21 +1,34 @@
 //! The bytes of a frame.
 ghost use Rattle.std.specs.Prelude.{◌≡◌, ◌+◌, ◌≤◌, ◌++◌, ◌∷◌, [], ◌==◌, OnOk, IsOk, length, vec_capacity};
+ghost use Rattle.wf_journal.specs.declared.frame.TheConstants.{OPEN, CLOSED, HEADER};
 ghost use Rattle.wf_journal.specs.Frames.{packed};
 ghost use Rattle.wf_journal.specs.StepAt.{fits_in};
 
 use std::alloc::AllocError;
 use wf_model::limits::MAX_BODY;
 
-/// Makes of `room` what stands behind a frame's gate: the length, the body and a closed gate.
-pub fn pack(room: &mut Vec<u8>, body: &[u8]) -> Result<(), AllocError>
+/// The gate in front of a whole frame.
+pub const OPEN: u8 = 1;
+
+/// The gate that is written where no frame follows. Any byte but `OPEN` is closed.
+pub const CLOSED: u8 = 0;
+
+/// Bytes of a frame in front of its body: its gate and its length.
+pub const HEADER: u64 = 5;
+
+/// Makes of `frame` what stands behind a frame's gate: the length, the body and a closed gate. Takes memory where `frame`
+/// has no room for `HEADER` bytes and the body. In linear time in the body.
+pub fn pack(frame: &mut Vec<u8>, body: &[u8]) -> Result<(), AllocError>
     requires { length body.now ≤ MAX_BODY }
-    ensures ok { OnOk result (room.new.items ≡ packed body.now ++ 0 ∷ []) }
-    ensures succeeds { length body.now + 5 ≤ vec_capacity room.old → IsOk result }
+    ensures ok { OnOk result (frame.new.items ≡ packed body.now ++ CLOSED ∷ []) }
+    ensures succeeds { HEADER + length body.now ≤ vec_capacity frame.old → IsOk result }
+    ensures capacity { vec_capacity frame.old ≤ vec_capacity frame.new }
 {
-    room.clear();
-    room.extend_from_slice(&(body.len() as u32).to_be_bytes())?;
-    room.extend_from_slice(body)?;
-    room.extend_from_slice(&[0])?;
+    frame.clear();
+    frame.reserve(HEADER as usize + body.len())?;
+    frame.extend_from_slice(&(body.len() as u32).to_be_bytes())?;
+    frame.extend_from_slice(body)?;
+    frame.extend_from_slice(&[CLOSED])?;
     Ok(())
 }
 
@@ -28,7 +41,7 @@ pub fn is_fit(len: u64, space: u64) -> bool
 
 /// Whether a gate is open.
 pub fn is_open(gate: u8) -> bool
-    ensures { result ≡ (gate == 1) }
+    ensures { result ≡ (gate == OPEN) }
 {
-    gate == 1
+    gate == OPEN
 }

@@ -1,24 +1,29 @@
 //! A journal: bodies that were appended in order, each on the disk before it is acknowledged.
 ghost use Rattle.std.specs.Prelude.{◌≡◌, ◌⊎◌, ◌+◌, ◌≤◌, ◌<◌, ◌∷◌, [], ℕ, List, true, false, nat_lt, if◌then◌else◌, Option, None, Some, IfSome, is_some, IsNone, IfOk, IfErr, IsOk, OnOk, IsErr, IsErrOf, length};
 ghost use Rattle.wf_disk.specs.Disk.{HasCause, IsSafeFor, LeavesOnly, IsSame};
+ghost use Rattle.wf_journal.specs.declared.frame.TheConstants.{HEADER};
 ghost use Rattle.wf_journal.specs.Frames.{bodies_of, is_broken, end_of, IsAsBefore, IsBeforeOrAfter};
-ghost use Rattle.wf_journal.specs.Journal.{IsLeft, HasBodiesOf, IsPlace, IsRead};
+ghost use Rattle.wf_journal.specs.Journal.{IsLeft, HasBodiesOf, KeepsBodies, IsPlace, IsRead};
 ghost use Rattle.wf_journal.specs.Faults.{refusal_of};
 ghost use Rattle.wf_journal.specs.State.{IsReady};
 
 use crate::append::put;
 use crate::fault::{AppendFault, ReadFault, StartFault};
+use crate::frame::HEADER;
 use crate::steps::{find_end, read_frame};
 use std::alloc::Global;
 use std::marker::Model;
+use std::mem::replace;
 use wf_disk::{Arm, Disk, MemDisk, WriteRefused};
 use wf_model::limits::{MAX_BODY, MAX_JOURNAL};
 use wf_model::{Bytes, List as Items, NoMemory};
 
-/// A journal that could not be started, and its disk.
+/// A journal that could not be started.
 #[derive(Drop)]
 pub struct JournalRefused<D> {
+    /// Why.
     pub fault: StartFault,
+    /// The disk, given back.
     pub disk: D,
 }
 
@@ -27,35 +32,42 @@ pub struct JournalRefused<D> {
 /// of its closed gate, whether a disk call of an append failed, and the longest body for which it has room of its own.
 #[derive(Drop)]
 pub struct Journal<D: Disk> {
+    /// The disk that holds the frames.
     disk: D,
-    /// The place of the closed gate.
+    /// The place of the closed gate, in bytes from the file's begin.
     place: u64,
     /// Whether a disk call of an append failed.
     failed: bool,
-    room: Vec<u8>,
+    /// The buffer in which a frame is made. Its capacity never falls.
+    frame: Vec<u8>,
+    /// Where bodies that are read take their memory.
     alloc: Global,
 }
 
 impl<D: Disk> Model for Journal<D> {
     ghost use Rattle.std.specs.Prelude.{◌-◌, vec_capacity};
     ghost use Rattle.wf_journal.specs.State.{Kept, kept_code, IsReady};
+    ghost use Rattle.wf_journal.specs.declared.frame.TheConstants.{HEADER};
 
     ghost Value = { Kept D };
 
     ghost coded = { kept_code D.code };
 
-    ghost view = { λ it. record { disk = it.disk; place = it.place; failed = it.failed; room = vec_capacity it.room - 5 } };
+    ghost view = { λ it. record { disk = it.disk; place = it.place; failed = it.failed; room = vec_capacity it.frame - HEADER } };
 
     ghost invariant = { λ it. IsReady (D.told it.disk) it.place it.failed };
 }
 
 impl<D: Disk> Journal<D> {
     /// Finds the end of the journal on a disk, or makes a new one on a disk of fewer than two bytes. It syncs first.
-    /// A refusal hands the disk back. A crash meanwhile leaves a disk on which a journal starts, if one did before. In
-    /// linear time in the journal's bytes, with one frame in memory at a time.
+    /// A refusal hands the disk back. Either way the disk has its bodies as before, and of two bytes or more it has each
+    /// byte as before. A crash meanwhile leaves a disk on which a journal starts, if one did before. In linear time in
+    /// the number of frames, with the head of one in memory at a time.
     pub fn start(alloc: Global, disk: D) -> Result<Journal<D>, JournalRefused<D>>
         ensures left { IfOk result (λ journal. (journal.failed ≡ false) × IsLeft (D.told disk) (D.told journal.disk) journal.place []) }
-        ensures tells { IfOk result (λ journal. is_some (D.told journal.disk).image ≡ is_some (D.told disk).image) }
+        ensures kept { IfOk result (λ journal. KeepsBodies (D.told disk) (D.told journal.disk)) }
+        ensures kept_refused { IfErr result (λ refused. KeepsBodies (D.told disk) (D.told refused.disk)) }
+        ensures begins { IfOk result (λ journal. (file : List ℕ) → (D.told journal.disk).image ≡ Some file → IsPlace file 0) }
         ensures whole { IfOk result (λ _. (file : List ℕ) → (D.told disk).image ≡ Some file → 2 ≤ length file → is_broken file ≡ false) }
         ensures bad { IfErr result (λ refused. (at : ℕ) → refused.fault ≡ StartFault.BadFrame at → (file : List ℕ) → (D.told disk).image ≡ Some file →
             (2 ≤ length file × (is_broken file ≡ true) × (end_of file ≡ at) × ((D.told refused.disk).image ≡ Some file))) }
@@ -74,7 +86,7 @@ impl<D: Disk> Journal<D> {
                 disk,
                 place,
                 failed: false,
-                room: Vec::new(alloc),
+                frame: Vec::new(alloc),
                 alloc,
             }),
             Err(fault) => Err(JournalRefused { fault, disk }),
@@ -91,7 +103,7 @@ impl<D: Disk> Journal<D> {
             Some(AppendFault::Reopen)
         } else if len == 0 || MAX_BODY < len as u64 {
             Some(AppendFault::TooLong)
-        } else if MAX_JOURNAL - 6 - (len as u64) < self.place {
+        } else if MAX_JOURNAL - HEADER - (len as u64) - 1 < self.place {
             Some(AppendFault::Full)
         } else {
             None
@@ -99,13 +111,17 @@ impl<D: Disk> Journal<D> {
     }
 
     /// Adds a body, in four strokes. At `Ok` each crash from then on leaves a journal that has it. `Reopen`, `TooLong`
-    /// and `Full` come in this order, before anything is done. After `NoMemory` the bodies are as before. After
-    /// `DiskFailed` the body may stand or not, and each later append answers `Reopen`.
+    /// and `Full` come in this order, before anything is done, and leave the journal as it was. After `NoMemory` the
+    /// bodies are as before; it doesn't come where the journal and its disk have room. After `DiskFailed` the body may
+    /// stand or not, and each later append answers `Reopen`. In linear time in the body.
     pub fn append(&mut self, body: &[u8]) -> Result<(), AppendFault>
-        ensures refused { IfSome (refusal_of self.old.failed self.old.place (length body.now)) (λ fault. (result ≡ Err fault) × (self.new.disk ≡ self.old.disk)) }
+        ensures refused { IfSome (refusal_of self.old.failed self.old.place (length body.now)) (λ fault. (result ≡ Err fault) × (self.new ≡ self.old)) }
         ensures other { IsNone (refusal_of self.old.failed self.old.place (length body.now)) → IfErr result (λ fault. (fault ≡ AppendFault.NoMemory) ⊎ (fault ≡ AppendFault.DiskFailed)) }
         ensures ok { OnOk result (IsLeft (D.told self.old.disk) (D.told self.new.disk) self.new.place (body.now ∷ [])) }
         ensures no_memory { IsErrOf result AppendFault.NoMemory → IsLeft (D.told self.old.disk) (D.told self.new.disk) self.new.place [] }
+        ensures place { OnOk result (self.new.place ≡ self.old.place + (HEADER + length body.now)) }
+        ensures place_kept { IsErr result → self.new.place ≡ self.old.place }
+        ensures tells { is_some (D.told self.new.disk).image ≡ is_some (D.told self.old.disk).image }
 
         // What a crash leaves.
         ensures any_moment { self.old.failed ≡ false → (file : List ℕ) → (D.told self.old.disk).image ≡ Some file →
@@ -118,6 +134,8 @@ impl<D: Disk> Journal<D> {
         ensures two { IsErrOf result AppendFault.NoMemory → (D.told self.new.disk).clock ≤ (D.told self.old.disk).clock + 2 }
         ensures good { IsNone (refusal_of self.old.failed self.old.place (length body.now)) → IsSafeFor (D.told self.old.disk) 4 →
             (D.told self.old.disk).has_room 2 (length body.now + 6) → length body.now ≤ self.old.room → IsOk result }
+        ensures enough { length body.now ≤ self.old.room → (D.told self.old.disk).has_room 2 (length body.now + 6) → IsErrOf result AppendFault.NoMemory → ⊥ }
+        ensures room { self.old.room ≤ self.new.room }
         ensures cause { HasCause (D.told self.old.disk) (D.told self.new.disk) (IsErrOf result AppendFault.DiskFailed) }
         ensures failed { IsErrOf result AppendFault.DiskFailed → self.new.failed ≡ true }
         ensures not_failed { (IsErrOf result AppendFault.DiskFailed → ⊥) → self.new.failed ≡ self.old.failed }
@@ -125,9 +143,9 @@ impl<D: Disk> Journal<D> {
         if let Some(fault) = self.refusal(body.len()) {
             return Err(fault);
         }
-        match put(&mut self.disk, self.place, body, &mut self.room) {
+        match put(&mut self.disk, self.place, body, &mut self.frame) {
             Ok(()) => {
-                self.place += 5 + body.len() as u64;
+                self.place += HEADER + body.len() as u64;
                 Ok(())
             }
             Err(WriteRefused::NoMemory) => Err(AppendFault::NoMemory),
@@ -139,28 +157,30 @@ impl<D: Disk> Journal<D> {
     }
 
     /// Reads the body of the frame at a place into `into`, and gives the place behind it; none at the end. The place
-    /// is 0, or was given by an earlier read. After an `Err` `into` is as before. In linear time in the body.
+    /// is 0, or was given by an earlier read. At the end and after an `Err` `into` is empty. In linear time in the body,
+    /// for which the memory that `into` has is used again.
     pub fn read(&mut self, place: u64, into: &mut Bytes) -> Result<Option<u64>, ReadFault>
         ensures read { IfOk result (λ next. (file : List ℕ) → (D.told self.old.disk).image ≡ Some file → IsPlace file place → IsRead file place next into.new) }
+        ensures none { IfOk result (λ next. next ≡ None → into.new ≡ []) }
+        ensures empty { IsErr result → into.new ≡ [] }
         ensures same { IsSame (D.told self.old.disk) (D.told self.new.disk) }
-        ensures kept { (self.new.place ≡ self.old.place) × (self.new.failed ≡ self.old.failed) }
-        ensures into { IsErr result → into.new ≡ into.old }
+        ensures kept { self.new ≡ record self.old { disk = self.new.disk } }
         ensures cause { HasCause (D.told self.old.disk) (D.told self.new.disk) (IsErrOf result ReadFault.DiskFailed) }
     {
-        let mut body = Vec::new(self.alloc);
+        let mut body = replace(into, Items::new(self.alloc)).into_vec();
         let next = read_frame(&mut self.disk, place, &mut body)?;
         *into = Items::from_vec(body);
         Ok(next)
     }
 
-    /// Makes room of its own for an append of at most so many bytes.
+    /// Makes room of its own for an append of at most so many bytes. The room that it has stays, also at a refusal.
     pub fn reserve(&mut self, len: u32) -> Result<(), NoMemory>
         ensures room { OnOk result (len ≤ self.new.room) }
-        ensures disk { self.new.disk ≡ self.old.disk }
-        ensures kept { (self.new.place ≡ self.old.place) × (self.new.failed ≡ self.old.failed) }
+        ensures more { self.old.room ≤ self.new.room }
+        ensures kept { self.new ≡ record self.old { room = self.new.room } }
     {
-        self.room.clear();
-        self.room.reserve(len as usize + 5)?;
+        self.frame.clear();
+        self.frame.reserve(HEADER as usize + len as usize)?;
         Ok(())
     }
 

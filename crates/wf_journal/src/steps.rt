@@ -1,12 +1,13 @@
 //! The walk over the frames of a disk.
-ghost use Rattle.std.specs.Prelude.{◌≡◌, ◌+◌, ◌≤◌, ◌<◌, ℕ, List, Option, Some, IfOk, IfErr, IsErr, IsErrOf, is_some, true, false, [], nat_lt, if◌then◌else◌, length, drop};
+ghost use Rattle.std.specs.Prelude.{◌≡◌, ◌+◌, ◌≤◌, ◌<◌, ℕ, List, Option, None, Some, IfOk, IfErr, IsErr, IsErrOf, true, false, [], nat_lt, if◌then◌else◌, length, drop};
 ghost use Rattle.wf_disk.specs.Disk.{IsSame, HasCause, LeavesOnly};
+ghost use Rattle.wf_journal.specs.declared.frame.TheConstants.{HEADER};
 ghost use Rattle.wf_journal.specs.Frames.{IsAtRest, end_of, is_broken};
-ghost use Rattle.wf_journal.specs.Journal.{IsLeft, HasBodiesOf, IsPlace, IsRead};
+ghost use Rattle.wf_journal.specs.Journal.{IsLeft, HasBodiesOf, KeepsBodies, IsPlace, IsRead};
 ghost use Rattle.wf_journal.specs.StepAt.{step_of};
 
 use crate::fault::{ReadFault, StartFault};
-use crate::frame::{is_fit, is_open};
+use crate::frame::{CLOSED, HEADER, is_fit, is_open};
 use wf_disk::Disk;
 use wf_model::Failed;
 
@@ -24,7 +25,7 @@ pub fn step_at<D: Disk>(disk: &mut D, at: u64, size: u64) -> Result<Step, Failed
     requires within { at < size }
     requires size { (file : List ℕ) → (D.told disk.old).image ≡ Some file → size ≡ length file }
     ensures step { IfOk result (λ step. (file : List ℕ) → (D.told disk.old).image ≡ Some file → step ≡ step_of at (drop at file)) }
-    ensures next { IfOk result (λ step. (next : ℕ) → step ≡ Step.Next next → (at + 5 < next × next < size)) }
+    ensures next { IfOk result (λ step. (next : ℕ) → step ≡ Step.Next next → (at + HEADER < next × next < size)) }
     ensures same { IsSame (D.told disk.old) (D.told disk.new) }
     ensures cause { HasCause (D.told disk.old) (D.told disk.new) (IsErr result) }
 {
@@ -33,14 +34,14 @@ pub fn step_at<D: Disk>(disk: &mut D, at: u64, size: u64) -> Result<Step, Failed
     if !is_open(gate[0]) {
         return Ok(Step::Closed);
     }
-    if size - at <= 5 {
+    if size - at <= HEADER {
         return Ok(Step::Broken);
     }
     let mut field = [0u8; 4];
     disk.read_at(at + 1, &mut field)?;
     let len = u64::from(u32::from_be_bytes(field));
-    if is_fit(len, size - at - 5) {
-        Ok(Step::Next(at + 5 + len))
+    if is_fit(len, size - at - HEADER) {
+        Ok(Step::Next(at + HEADER + len))
     } else {
         Ok(Step::Broken)
     }
@@ -57,20 +58,19 @@ pub fn walk<D: Disk>(disk: &mut D, size: u64) -> Result<u64, StartFault>
     ensures cause { HasCause (D.told disk.old) (D.told disk.new) (IsErrOf result StartFault.DiskFailed) }
 {
     let mut at = 0;
-    while at < size {
+    loop {
         match step_at(disk, at, size)? {
             Step::Closed => return Ok(at),
             Step::Broken => return Err(StartFault::BadFrame { at }),
             Step::Next(next) => at = next,
         }
     }
-    Err(StartFault::BadFrame { at })
 }
 
 /// Syncs, makes a new journal on a disk of fewer than two bytes, and finds the closed gate.
 pub fn find_end<D: Disk>(disk: &mut D) -> Result<u64, StartFault>
     ensures left { IfOk result (λ place. IsLeft (D.told disk.old) (D.told disk.new) place []) }
-    ensures tells { is_some (D.told disk.new).image ≡ is_some (D.told disk.old).image }
+    ensures kept { KeepsBodies (D.told disk.old) (D.told disk.new) }
     ensures whole { IfOk result (λ _. (file : List ℕ) → (D.told disk.old).image ≡ Some file → 2 ≤ length file → is_broken file ≡ false) }
     ensures bad { IfErr result (λ e. (at : ℕ) → e ≡ StartFault.BadFrame at → (file : List ℕ) → (D.told disk.old).image ≡ Some file →
         (2 ≤ length file × (is_broken file ≡ true) × (end_of file ≡ at) × ((D.told disk.new).image ≡ Some file))) }
@@ -82,23 +82,25 @@ pub fn find_end<D: Disk>(disk: &mut D) -> Result<u64, StartFault>
     disk.sync()?;
     let size = disk.size()?;
     if size < 2 {
-        disk.write_at(0, &[0])?;
+        disk.write_at(0, &[CLOSED])?;
         disk.sync()?;
         return Ok(0);
     }
     walk(disk, size)
 }
 
-/// Reads the body of the frame at a place into `body`, and gives the place behind it; none at the end.
+/// Clears `body`, reads the body of the frame at a place into it, and gives the place behind it; none at the end.
 pub fn read_frame<D: Disk>(
     disk: &mut D,
     place: u64,
     body: &mut Vec<u8>,
 ) -> Result<Option<u64>, ReadFault>
     ensures read { IfOk result (λ next. (file : List ℕ) → (D.told disk.old).image ≡ Some file → IsPlace file place → IsRead file place next body.new.items) }
+    ensures none { IfOk result (λ next. next ≡ None → body.new.items ≡ []) }
     ensures same { IsSame (D.told disk.old) (D.told disk.new) }
     ensures cause { HasCause (D.told disk.old) (D.told disk.new) (IsErrOf result ReadFault.DiskFailed) }
 {
+    body.clear();
     let size = disk.size()?;
     if place >= size {
         return Ok(None);
@@ -107,10 +109,7 @@ pub fn read_frame<D: Disk>(
     let Step::Next(next) = step else {
         return Ok(None);
     };
-    body.clear();
-    if body.resize((next - place - 5) as usize, 0).is_err() {
-        return Err(ReadFault::NoMemory);
-    }
-    disk.read_at(place + 5, body)?;
+    body.resize((next - place - HEADER) as usize, 0)?;
+    disk.read_at(place + HEADER, body)?;
     Ok(Some(next))
 }

@@ -1,4 +1,4 @@
-use crate::{AppendFault, Journal, StartFault};
+use crate::{AppendFault, Journal, JournalRefused, StartFault};
 use std::test::Fail;
 use wf_disk::{Arm, Disk, MemDisk, Outcome};
 use wf_model::List;
@@ -43,6 +43,87 @@ fn has_body(rt: &HostRuntime, disk: MemDisk) -> Result<bool, Fail> {
     Ok(next.is_some())
 }
 
+/// What a journal answers as it starts on an image, and the disk's bytes then.
+fn started(rt: &HostRuntime, image: &[u8]) -> Result<(Option<StartFault>, Vec<u8>), Fail> {
+    let mut disk = MemDisk::new(rt.alloc());
+    disk.write_at(0, image)?;
+    let (fault, mut disk) = match Journal::start(rt.alloc(), disk) {
+        Ok(journal) => (None, journal.close()),
+        Err(JournalRefused { fault, disk }) => (Some(fault), disk),
+    };
+    let bytes = bytes_of(rt, &mut disk)?;
+    Ok((fault, bytes))
+}
+
+/// A frame with a body of `len` zeros, and a closed gate.
+fn frame_of_zeros(rt: &HostRuntime, len: u32) -> Result<Vec<u8>, Fail> {
+    let mut image = vec![in rt.alloc(); 1]?;
+    image.extend_from_slice(&len.to_be_bytes())?;
+    image.resize(len as usize + 6, 0)?;
+    Ok(image)
+}
+
+#[test]
+fn what_a_journal_starts_on(rt: HostRuntime) -> Result<(), Fail> {
+    let images: [(&[u8], Option<StartFault>); 8] = [
+        // Any two bytes of which the first isn't 1 are an empty journal.
+        (&[0xFF, 1], None),
+        // An open gate and too few bytes for a frame.
+        (&[1, 0], Some(StartFault::BadFrame { at: 0 })),
+        // A frame, and behind its closed gate what a crash may leave of another.
+        (&[1, 0, 0, 0, 2, 7, 7, 0, 0xFF, 0xFF, 0xFF], None),
+        // No byte, not even a gate, behind a body.
+        (&[1, 0, 0, 0, 2, 7, 7], Some(StartFault::BadFrame { at: 0 })),
+        (
+            &[1, 0, 0, 0, 2, 7, 7, 1, 0, 0, 0, 1, 7],
+            Some(StartFault::BadFrame { at: 7 }),
+        ),
+        // A body that ends past the file.
+        (
+            &[1, 0, 0, 0, 3, 7, 7, 0],
+            Some(StartFault::BadFrame { at: 0 }),
+        ),
+        // A length of 0.
+        (
+            &[
+                1, 0, 0, 0, 8, 0x48, 1, 3, 0x74, 0x77, 0x6F, 1, 0x61, 1, 0, 0, 0, 0, 0,
+            ],
+            Some(StartFault::BadFrame { at: 13 }),
+        ),
+        // An open gate at the end.
+        (
+            &[1, 0, 0, 0, 2, 7, 7, 1],
+            Some(StartFault::BadFrame { at: 7 }),
+        ),
+    ];
+    for (image, wanted) in images {
+        let (fault, bytes) = started(&rt, image)?;
+        assert_eq!(rt; fault, wanted);
+        assert_eq!(rt; bytes.as_slice(), image);
+    }
+    Ok(())
+}
+
+#[test]
+fn one_byte_is_an_empty_journal(rt: HostRuntime) -> Result<(), Fail> {
+    let (fault, bytes) = started(&rt, &[1])?;
+    assert_eq!(rt; fault, None);
+    let gate: &[u8] = &[0];
+    assert_eq!(rt; bytes.as_slice(), gate);
+    Ok(())
+}
+
+#[test]
+fn the_longest_body(rt: HostRuntime) -> Result<(), Fail> {
+    let (fault, _) = started(&rt, &frame_of_zeros(&rt, 1_048_576)?)?;
+    assert_eq!(rt; fault, None);
+    let image = frame_of_zeros(&rt, 1_048_577)?;
+    let (fault, bytes) = started(&rt, &image)?;
+    assert_eq!(rt; fault, Some(StartFault::BadFrame { at: 0 }));
+    assert_eq!(rt; bytes.as_slice(), image.as_slice());
+    Ok(())
+}
+
 #[test]
 fn the_bytes_of_a_journal(rt: HostRuntime) -> Result<(), Fail> {
     let (mut disk, answer) = appended(&rt, MemDisk::new(rt.alloc()), 99, Arm::Fail, &HEAD)?;
@@ -70,6 +151,13 @@ fn seven_strokes_for_the_first_body(rt: HostRuntime) -> Result<(), Fail> {
     journal.append(&HEAD)?;
     assert_eq!(rt; journal.append(&ADMIT), Err(AppendFault::DiskFailed));
     assert_eq!(rt; journal.append(&ADMIT), Err(AppendFault::Reopen));
+    let mut disk = MemDisk::new(rt.alloc());
+    disk.arm(7, Arm::Fail);
+    let mut journal = match Journal::start(rt.alloc(), disk) {
+        Ok(journal) => journal,
+        Err(refused) => return Err(Fail::from(refused.fault)),
+    };
+    assert_eq!(rt; journal.append(&HEAD), Err(AppendFault::DiskFailed));
     Ok(())
 }
 
@@ -105,32 +193,30 @@ fn what_stands_after_an_arm(rt: HostRuntime) -> Result<(), Fail> {
 }
 
 #[test]
-fn refusals(rt: HostRuntime) -> Result<(), Fail> {
+fn an_empty_body_is_refused(rt: HostRuntime) -> Result<(), Fail> {
     let (_, empty) = appended(&rt, MemDisk::new(rt.alloc()), 99, Arm::Fail, &[])?;
     assert_eq!(rt; empty, Err(AppendFault::TooLong));
-    let mut disk = MemDisk::new(rt.alloc());
-    disk.write_at(0, &[1, 0, 0, 0, 1, 7])?;
-    match Journal::start(rt.alloc(), disk) {
-        Ok(_) => return Err(Fail::new("no gate follows the body")),
-        Err(refused) => assert_eq!(rt; refused.fault, StartFault::BadFrame { at: 0 }),
-    }
     Ok(())
 }
 
 #[test]
-fn a_body_is_read(rt: HostRuntime) -> Result<(), Fail> {
+fn bodies_are_read(rt: HostRuntime) -> Result<(), Fail> {
     let mut journal = match Journal::start(rt.alloc(), MemDisk::new(rt.alloc())) {
         Ok(journal) => journal,
         Err(refused) => return Err(Fail::from(refused.fault)),
     };
-    journal.reserve(8)?;
+    journal.reserve(12)?;
     journal.append(&HEAD)?;
+    journal.append(&ADMIT)?;
     journal.arm(1, Arm::Fail);
     journal.disarm();
     assert!(rt; !journal.disk().stopped());
     let mut body = List::new(rt.alloc());
     assert_eq!(rt; journal.read(0, &mut body)?, Some(13));
     assert_eq!(rt; body.as_slice(), HEAD.as_slice());
-    assert_eq!(rt; journal.read(13, &mut body)?, None);
+    assert_eq!(rt; journal.read(13, &mut body)?, Some(30));
+    assert_eq!(rt; body.as_slice(), ADMIT.as_slice());
+    assert_eq!(rt; journal.read(30, &mut body)?, None);
+    assert!(rt; body.is_empty());
     Ok(())
 }

@@ -1,5 +1,5 @@
 -- The texts of units, and the states that they watch.
-use Rattle.std.proofs.Common.{◌≡◌, ℕ, suc, ◌+◌, ◌<◌, ◌≤◌, ◌∙◌, Bool, false, List, [], ◌∷◌, ◌++◌, All, length, map, filter, flat_map, get_or, cond, unwrap_or, Option, refl, ap, arith, append-nil}
+use Rattle.std.proofs.Common.{◌≡◌, ℕ, suc, ◌+◌, ◌<◌, ◌≤◌, ◌∙◌, Bool, false, List, [], ◌∷◌, ◌++◌, All, length, map, filter, flat_map, get_or, cond, refl, ap, arith, append-nil}
 use Rattle.std.proofs.lemmas.Bool.Decides.{nat_tests}
 use Rattle.std.proofs.lemmas.Grind.{flat_map-append}
 use Rattle.std.proofs.lemmas.List.Elements.{All-map, All-filter}
@@ -12,7 +12,7 @@ use Rattle.wf_model.specs.declared.part.KnownState.{KnownState}
 use Rattle.wf_model.specs.declared.part.Part.{Part}
 use Rattle.wf_model.specs.Accepted.{IsAccepted, is_accepted, is_small}
 use Rattle.wf_model.specs.Tree.{all_states}
-use Rattle.wf_scopes.proofs.Rows.{row_get, range_more}
+use Rattle.wf_scopes.proofs.Rows.{row_at, range_more}
 use Rattle.wf_parts.specs.Known.{watches_state, knows_state}
 use Rattle.wf_parts.specs.Parts.{part_of, known_state, numbered}
 use Rattle.wf_partition.specs.SplitText.{bit, AreWatched}
@@ -42,7 +42,7 @@ told_at chart u bits is k d lt =
     let within : k < length chart.states = omega (arith, length-enumerate_from 0 chart.states) in
     let zero_more : 0 + k ≡ k = omega arith in
     let number : (get_or (enumerate_from 0 chart.states) k d).0 ≡ k = ap (λ (x : ℕ × State). x.0) (get_or-enumerate_from 0 chart.states k d within) ∙ zero_more in
-    rw number (ap (λ (o : Option Bool). unwrap_or o false) (row_get (watches_state chart u) (length chart.states) k bits is within))
+    rw number (row_at (watches_state chart u) (length chart.states) k false bits is within)
 
 -- the bits of all states tell of each that the unit knows
 pub told_of_known : (chart : Chart) (u : ℕ) (part : Part) (bits : List Bool) → part ≡ part_of chart u → bits ≡ map (watches_state chart u) (all_states chart)

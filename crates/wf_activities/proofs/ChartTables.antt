@@ -4,7 +4,7 @@ use Rattle.std.specs.List.{slice_get, cons_option, filter_map}
 use Rattle.std.specs.Option.{option_map}
 use Rattle.std.proofs.lemmas.Bool.{leb-true}
 use Rattle.std.proofs.lemmas.List.{take_more, length-replicate}
-use Rattle.wf_model.specs.declared.limits.TheConstants.{MAX_UNITS, MAX_ACTS}
+use Rattle.wf_model.specs.Limits.{max_units, max_acts}
 use Rattle.wf_model.specs.declared.ids.VarId.{VarId}
 use Rattle.wf_model.specs.declared.value.Sort.{Sort}
 use Rattle.wf_model.specs.declared.chart.Variable.{Variable}
@@ -15,12 +15,12 @@ use Rattle.wf_semantics.specs.Items.{Item}
 use Rattle.wf_activities.specs.Stock.{Stock, AreOf, items_at, steps_at, with_sort, with_sorts, acts_of, wanted_of}
 use Rattle.wf_activities.proofs.Rows.{get_replicate}
 
-few_of : (chart : Chart) → is_small chart ≡ Rattle.std.proofs.Common.true → (length chart.units ≤ MAX_UNITS) × (length chart.acts ≤ MAX_ACTS)
+few_of : (chart : Chart) → is_small chart ≡ Rattle.std.proofs.Common.true → (length chart.units ≤ max_units) × (length chart.acts ≤ max_acts)
 unfolding is_small
-few_of chart small = (leb-true (length chart.units) MAX_UNITS (grind arith), leb-true (length chart.acts) MAX_ACTS (grind arith))
+few_of chart small = (leb-true (length chart.units) max_units (grind arith), leb-true (length chart.acts) max_acts (grind arith))
 
 -- an accepted chart has few units and activities
-pub few : (chart : Chart) → IsAccepted chart → (length chart.units ≤ MAX_UNITS) × (length chart.acts ≤ MAX_ACTS)
+pub few : (chart : Chart) → IsAccepted chart → (length chart.units ≤ max_units) × (length chart.acts ≤ max_acts)
 few chart ok = few_of chart (rules chart ok).small
 
 sorts_append : (chart : Chart) (xs ys : List VarId) → with_sorts chart (xs ++ ys) ≡ with_sorts chart xs ++ with_sorts chart ys

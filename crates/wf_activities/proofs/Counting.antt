@@ -4,7 +4,7 @@ use Rattle.std.specs.List.{slice_get, All}
 use Rattle.std.proofs.lemmas.List.Elements.{All-nil, All-cons, All-head, All-tail, All-weaker}
 use Rattle.std.proofs.lemmas.Bool.{leb-true}
 use Rattle.wf_semantics.proofs.Bools.{or_cases}
-use Rattle.wf_model.specs.declared.limits.TheConstants.{MAX_ACTS}
+use Rattle.wf_model.specs.Limits.{max_acts}
 use Rattle.std.proofs.lemmas.List.{take_more, length-replicate}
 use Rattle.std.proofs.lemmas.Grind.{get_or-set_at}
 use Rattle.wf_model.specs.declared.ids.ActId.{ActId}
@@ -123,13 +123,13 @@ small_listed n acts (l ∷ ls) all = go (is_listed acts l.act.0) refl (small_lis
     go false e r = r
 
 -- where there is no room no start is listed, and else all listed activities have a place
-pub all_below : (acts : List ActId) (ls : List StartAt) (reach a b : ℕ) → All (λ x. x.0 < MAX_ACTS) acts → length (listed acts ls) ≤ room_of reach a b → All (λ s. s.act.0 < reach) (listed acts ls)
-all_below acts ls reach a b small le = go (leb MAX_ACTS reach) refl le
+pub all_below : (acts : List ActId) (ls : List StartAt) (reach a b : ℕ) → All (λ x. x.0 < max_acts) acts → length (listed acts ls) ≤ room_of reach a b → All (λ s. s.act.0 < reach) (listed acts ls)
+all_below acts ls reach a b small le = go (leb max_acts reach) refl le
   where
-    go : (p : Bool) → leb MAX_ACTS reach ≡ p → length (listed acts ls) ≤ cond p (min a b) 0 → All (λ s. s.act.0 < reach) (listed acts ls)
+    go : (p : Bool) → leb max_acts reach ≡ p → length (listed acts ls) ≤ cond p (min a b) 0 → All (λ s. s.act.0 < reach) (listed acts ls)
     go true e h =
-        let wide : MAX_ACTS ≤ reach = leb-true MAX_ACTS reach e in
-        All-weaker (λ (s : StartAt). s.act.0 < MAX_ACTS) (λ (s : StartAt). s.act.0 < reach) (λ s lt. omega (arith, lt, wide)) (listed acts ls) (small_listed MAX_ACTS acts ls small)
+        let wide : max_acts ≤ reach = leb-true max_acts reach e in
+        All-weaker (λ (s : StartAt). s.act.0 < max_acts) (λ (s : StartAt). s.act.0 < reach) (λ s lt. omega (arith, lt, wide)) (listed acts ls) (small_listed max_acts acts ls small)
     go false e h = λ k d lt. absurd (omega arith)
 
 open_at : (items : List Item) (k : ℕ) (x : Item) → slice_get items k ≡ Some x → is_open (slice_get items k) ≡ true → x.closed ≡ false

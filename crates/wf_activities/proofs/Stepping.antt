@@ -5,7 +5,7 @@ use Rattle.std.specs.Vec.{with_items}
 use Rattle.std.specs.List.{All, list_any, range_with_len}
 use Rattle.std.proofs.lemmas.List.{drop_all, take_all, get_or_past, get_or-map, length-map}
 use Rattle.std.proofs.lemmas.List.Elements.{All-nil, All-cons, All-map, All-filter, All-weaker, All-same}
-use Rattle.wf_model.specs.declared.limits.TheConstants.{MAX_ACTS}
+use Rattle.wf_model.specs.Limits.{max_acts}
 use Rattle.wf_model.specs.declared.ids.ActId.{ActId}
 use Rattle.wf_model.specs.declared.chart.Chart.{Chart}
 use Rattle.wf_model.specs.declared.outer.Entry.{Entry}
@@ -58,17 +58,17 @@ range_small a (suc n) =
     (All-weaker (λ (x : ℕ). x < (a + 1) + n) (λ (x : ℕ). x < a + suc n) (λ x lt. omega (arith, lt)) (range_with_len (a + 1) n) (range_small (a + 1) n))
 
 -- the activities of the tables have small numbers
-pub small_tables : (chart : Chart) (stock : Stock) → IsAccepted chart → AreOf chart stock → All (λ ids. All (λ a. a.0 < MAX_ACTS) ids) stock.acts
+pub small_tables : (chart : Chart) (stock : Stock) → IsAccepted chart → AreOf chart stock → All (λ ids. All (λ a. a.0 < max_acts) ids) stock.acts
 unfolding acts_of
 small_tables chart stock ok of =
-    All-same (λ (ids : List ActId). All (λ (a : ActId). a.0 < MAX_ACTS) ids) stock.acts (map (acts_at chart) (range_with_len 0 (length chart.units))) of.acts
-    (All-map (λ (ids : List ActId). All (λ (a : ActId). a.0 < MAX_ACTS) ids) (acts_at chart) (range_with_len 0 (length chart.units)) (λ k d lt. of_unit (get_or (range_with_len 0 (length chart.units)) k d)))
+    All-same (λ (ids : List ActId). All (λ (a : ActId). a.0 < max_acts) ids) stock.acts (map (acts_at chart) (range_with_len 0 (length chart.units))) of.acts
+    (All-map (λ (ids : List ActId). All (λ (a : ActId). a.0 < max_acts) ids) (acts_at chart) (range_with_len 0 (length chart.units)) (λ k d lt. of_unit (get_or (range_with_len 0 (length chart.units)) k d)))
   where
-    of_unit : (u : ℕ) → All (λ (a : ActId). a.0 < MAX_ACTS) (acts_at chart u)
+    of_unit : (u : ℕ) → All (λ (a : ActId). a.0 < max_acts) (acts_at chart u)
     of_unit u =
-        All-map (λ (a : ActId). a.0 < MAX_ACTS) act_id (filter (is_act_at chart u) (range_with_len 0 (length chart.acts)))
-        (All-filter (is_act_at chart u) (λ (x : ℕ). x < MAX_ACTS) (range_with_len 0 (length chart.acts))
-        (All-weaker (λ (x : ℕ). x < 0 + length chart.acts) (λ (x : ℕ). x < MAX_ACTS) (λ x lt. omega (arith, lt, (few chart ok).1)) (range_with_len 0 (length chart.acts)) (range_small 0 (length chart.acts))))
+        All-map (λ (a : ActId). a.0 < max_acts) act_id (filter (is_act_at chart u) (range_with_len 0 (length chart.acts)))
+        (All-filter (is_act_at chart u) (λ (x : ℕ). x < max_acts) (range_with_len 0 (length chart.acts))
+        (All-weaker (λ (x : ℕ). x < 0 + length chart.acts) (λ (x : ℕ). x < max_acts) (λ x lt. omega (arith, lt, (few chart ok).1)) (range_with_len 0 (length chart.acts)) (range_small 0 (length chart.acts))))
 
 pub acts_length : (chart : Chart) (stock : Stock) → AreOf chart stock → length stock.acts ≡ length chart.units
 unfolding acts_of

@@ -4,7 +4,7 @@ use Rattle.std.specs.List.{list_any, zip}
 use Rattle.wf_model.specs.declared.ids.ActId.{ActId}
 use Rattle.wf_model.specs.declared.ids.UnitId.{UnitId}
 use Rattle.wf_model.specs.declared.update.StartAt.{StartAt}
-use Rattle.wf_model.specs.declared.limits.TheConstants.{MAX_ACTS}
+use Rattle.wf_model.specs.Limits.{max_acts}
 use Rattle.wf_semantics.specs.Items.{Item, one, open_count}
 
 pub record UnitItems : Type 0 where
@@ -41,7 +41,7 @@ at_step step starts = map (λ s. (s.act, step)) starts
 
 -- how many items more take no memory, where the counts reach so far and the two lists have so much room behind their ends
 abbrev pub room_of : ℕ → ℕ → ℕ → ℕ
-room_of reach started closed = if nat_le MAX_ACTS reach then min started closed else 0
+room_of reach started closed = if nat_le max_acts reach then min started closed else 0
 
 -- items, from what was started and which of it is closed
 abbrev pub items_from : List (ActId × ℕ) → List Bool → List Item

@@ -1,6 +1,6 @@
 //! How many items of each activity are open, by its number.
 ghost use Rattle.std.specs.Prelude.{◌≡◌, ℕ, ◌+◌, ◌<◌, ◌≤◌, ◌^◌, length, slice_index, All, IsOk, OnOk};
-ghost use Rattle.wf_model.specs.declared.limits.TheConstants.{MAX_ACTS};
+ghost use Rattle.wf_model.specs.Limits.{max_acts};
 ghost use Rattle.wf_activities.specs.UnitItems.{listed, starts_count};
 
 use crate::starts::is_listed;
@@ -40,7 +40,7 @@ pub fn widen(counts: &mut Vec<u32>, acts: &[ActId], starts: &[StartAt]) -> Resul
 /// Makes the table reach to all activities that a chart may have. What it counts stays, with memory and without.
 pub fn reach_all(counts: &mut Vec<u32>) -> Result<(), NoMemory>
     ensures same { (a : ℕ) → slice_index counts.new.items a ≡ slice_index counts.old.items a }
-    ensures wide { OnOk result (MAX_ACTS ≤ length counts.new.items) }
+    ensures wide { OnOk result (max_acts ≤ length counts.new.items) }
 {
     reach(counts, ActId(MAX_ACTS as u32 - 1))
 }

@@ -1,6 +1,6 @@
 //! The starts of a step, at all units.
 ghost use Rattle.std.specs.Prelude.{◌≡◌, ℕ, ◌+◌, ◌<◌, ◌≤◌, ◌^◌, ◌++◌, [], length, map, slice_index_or, All, OnOk};
-ghost use Rattle.wf_model.specs.declared.limits.TheConstants.{MAX_ACTS};
+ghost use Rattle.wf_model.specs.Limits.{max_acts};
 ghost use Rattle.wf_semantics.specs.Items.{new_item};
 ghost use Rattle.wf_activities.specs.UnitItems.{listed};
 ghost use Rattle.wf_activities.specs.Stock.{items_in, steps_in};
@@ -24,7 +24,7 @@ pub fn reserve(units: &mut [Items], more: u32) -> Result<(), NoMemory>
 /// times the starts times the activities of a unit.
 pub fn grow(units: &mut [Items], acts: &[List<ActId>], step: u32, starts: &[StartAt])
     requires tables { length acts.now ≡ length units.old }
-    requires small { All (λ ids. All (λ a. a.0 < MAX_ACTS) ids) acts.now }
+    requires small { All (λ ids. All (λ a. a.0 < max_acts) ids) acts.now }
     requires room { All (λ i. length starts.now ≤ i.room) units.old }
     requires few { (u : ℕ) → length (items_in units.old u) + length starts.now < 2 ^ 32 }
     ensures items { (u : ℕ) → u < length units.old → items_in units.new u ≡ items_in units.old u ++ map (λ s. new_item s.act) (listed (slice_index_or acts.now u []) starts.now) }

@@ -1,7 +1,7 @@
 //! The items of one unit.
 ghost use Rattle.std.specs.Prelude.{◌≡◌, ◌+◌, ◌++◌, ◌<◌, ◌≤◌, ◌^◌, ◌↔◌, [], length, map, All, IsTrue, IsOk, IfOk, OnOk, OnErr};
 ghost use Rattle.std.specs.Option.{option_map};
-ghost use Rattle.wf_model.specs.declared.limits.TheConstants.{MAX_ACTS};
+ghost use Rattle.wf_model.specs.Limits.{max_acts};
 ghost use Rattle.wf_semantics.specs.Items.{new_item, item_at, open_count, close};
 ghost use Rattle.wf_activities.specs.UnitItems.{listed, is_open, started_of};
 ghost use Rattle.wf_activities.specs.Completing.{may_complete};
@@ -79,7 +79,7 @@ impl Items {
         ensures steps { OnOk result (self.new.steps ≡ self.old.steps ++ map (λ s. step) (listed chart_unit_acts.now starts.now)) }
         ensures err_items { OnErr result (self.new.items ≡ self.old.items) }
         ensures err_steps { OnErr result (self.new.steps ≡ self.old.steps) }
-        ensures ready { All (λ a. a.0 < MAX_ACTS) chart_unit_acts.now → length (listed chart_unit_acts.now starts.now) ≤ self.old.room → IsOk result }
+        ensures ready { All (λ a. a.0 < max_acts) chart_unit_acts.now → length (listed chart_unit_acts.now starts.now) ≤ self.old.room → IsOk result }
     {
         let before = self.started.len();
         counts::widen(&mut self.counts, chart_unit_acts, starts)?;

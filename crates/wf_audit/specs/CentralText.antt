@@ -1,7 +1,7 @@
 -- The words of the central run: what it replies to each line of a script.
 use Rattle.std.specs.Prelude.{◌≡◌, ◌≤◌, ◌<◌, ℕ, ◌+◌, ◌==◌, ◌++◌, List, [], ◌∷◌, length, map, filter, flat_map, Result, Ok, Err}
 use Rattle.std.specs.List.{enumerate_from, range_with_len}
-use Rattle.wf_model.specs.declared.limits.TheConstants.{MAX_REPORT}
+use Rattle.wf_model.specs.Limits.{max_report}
 use Rattle.wf_model.specs.declared.ids.StateId.{StateId}
 use Rattle.wf_model.specs.declared.ids.UnitId.{UnitId}
 use Rattle.wf_model.specs.declared.value.Val.{Val}
@@ -112,12 +112,12 @@ central_text chart script = replies_to chart (first_standing chart) script
 
 -- the answer is this text, which is short enough; or it is too long, or memory ran out
 abbrev pub GivesText : Result (List ℕ) RunFault → List ℕ → Type 0
-GivesText (Ok text) wanted = (text ≡ wanted) × (length wanted ≤ MAX_REPORT)
-GivesText (Err faults.TooLong) wanted = MAX_REPORT < length wanted
+GivesText (Ok text) wanted = (text ≡ wanted) × (length wanted ≤ max_report)
+GivesText (Err faults.TooLong) wanted = max_report < length wanted
 GivesText (Err faults.NoMemory) wanted = Unit {0}
 
 -- the line stands behind the text, which stays short enough; or it would be too long, or memory ran out
 abbrev pub Adds : Result (Unit {0}) RunFault → (before after line : List ℕ) → Type 0
-Adds (Ok done) before after line = (after ≡ before ++ line) × (length after ≤ MAX_REPORT)
-Adds (Err faults.TooLong) before after line = MAX_REPORT < length before + length line
+Adds (Ok done) before after line = (after ≡ before ++ line) × (length after ≤ max_report)
+Adds (Err faults.TooLong) before after line = max_report < length before + length line
 Adds (Err faults.NoMemory) before after line = Unit {0}

@@ -3,7 +3,7 @@ use Rattle.std.specs.Prelude.{ℕ, ◌+◌, pos, neg_ℤ, true, false, List, [],
 use Rattle.std.specs.Option.{option_map}
 use Rattle.std.specs.Str.{bytes_eq}
 use lib.Chars.{codes}
-use Rattle.wf_model.specs.declared.limits.TheConstants.{MAX_INT}
+use Rattle.wf_model.specs.Limits.{max_int}
 use Rattle.wf_model.specs.declared.value.Val.{Val}
 use Rattle.wf_model.specs.declared.value.Val.TheVariants as v
 use Rattle.wf_lex.specs.declared.token.TokenKind.{TokenKind}
@@ -32,7 +32,7 @@ truth word = if bytes_eq word (codes "true") then Some (v.Bool true) else (if by
 -- true | false | INT | TEXT
 abbrev pub single : TokenKind → List ℕ → Option Val
 single kinds.Word spelling = truth spelling
-single kinds.Int spelling = option_map (λ n. v.Int (pos n)) (number_up_to MAX_INT spelling)
+single kinds.Int spelling = option_map (λ n. v.Int (pos n)) (number_up_to max_int spelling)
 single kinds.Text spelling = option_map (λ t. v.Text t) (short_text spelling)
 single kinds.Sign spelling = None
 
@@ -44,5 +44,5 @@ negated minus int = if bytes_eq minus (codes "-") then option_map (λ n. v.Int (
 unfoldable pub value_of : List ℕ → List Token → Option Val
 value_of line [] = None
 value_of line (token ∷ []) = single token.kind (text_at line token)
-value_of line (minus ∷ int ∷ []) = negated (text_at line minus) (int_at (MAX_INT + 1) line int)
+value_of line (minus ∷ int ∷ []) = negated (text_at line minus) (int_at (max_int + 1) line int)
 value_of line (first ∷ second ∷ third ∷ more) = None

@@ -1,10 +1,11 @@
 //! The central run of a script.
 ghost use Rattle.std.specs.Prelude.{◌≡◌, ◌≤◌, ◌<◌, ◌+◌, ◌++◌, ◌==◌, length, filter, IfOk, OnOk};
 ghost use Rattle.wf_model.specs.Accepted.{IsAccepted};
-ghost use Rattle.wf_model.specs.declared.limits.TheConstants.{MAX_STEPS};
+ghost use Rattle.wf_model.specs.Limits.{max_steps};
 ghost use Rattle.wf_central.specs.Kept.{central_of, IsOf};
 ghost use Rattle.wf_audit.specs.CentralText as spec;
 ghost use Rattle.wf_audit.specs.Standings.{standing_of, IsRun};
+ghost use Rattle.wf_model.specs.Limits.{max_lines, max_report};
 
 use crate::reply::{Reply, reply_line};
 use crate::script::CentralLine;
@@ -162,7 +163,7 @@ impl Run {
 
     fn step(&mut self, alloc: Global, checked: &Checked) -> Result<Reply, NoMemory>
         requires sound { IsRun checked.now self.old }
-        requires few { self.old.central.taken < MAX_STEPS }
+        requires few { self.old.central.taken < max_steps }
         ensures reply { IfOk result (λ reply. reply ≡ spec.stepped checked.now (standing_of checked.now self.old)) }
         ensures standing { OnOk result (standing_of checked.now self.new ≡ spec.after_step checked.now (standing_of checked.now self.old)) }
         ensures sound { OnOk result (IsRun checked.now self.new) }
@@ -186,7 +187,7 @@ impl Run {
         line: &CentralLine,
     ) -> Result<Reply, NoMemory>
         requires sound { IsRun checked.now self.old }
-        requires few { self.old.central.taken < MAX_STEPS }
+        requires few { self.old.central.taken < max_steps }
         ensures reply { IfOk result (λ reply. reply ≡ spec.reply_of checked.now (standing_of checked.now self.old) line.now) }
         ensures standing { OnOk result (standing_of checked.now self.new ≡ spec.after_line checked.now (standing_of checked.now self.old) line.now) }
         ensures sound { OnOk result (IsRun checked.now self.new) }
@@ -208,7 +209,7 @@ impl Run {
         line: &CentralLine,
     ) -> Result<Bytes, NoMemory>
         requires sound { IsRun checked.now self.old }
-        requires few { self.old.central.taken < MAX_STEPS }
+        requires few { self.old.central.taken < max_steps }
         ensures text { IfOk result (λ text. text ≡ spec.reply_line checked.now (standing_of checked.now self.old) number line.now) }
         ensures standing { OnOk result (standing_of checked.now self.new ≡ spec.after_line checked.now (standing_of checked.now self.old) line.now) }
         ensures sound { OnOk result (IsRun checked.now self.new) }
@@ -221,7 +222,7 @@ impl Run {
 
 // Adds a line to a text, if the text stays short enough.
 fn add(text: &mut Bytes, line: &[u8]) -> Result<(), RunFault>
-    requires { length text.old ≤ MAX_REPORT }
+    requires { length text.old ≤ max_report }
     ensures { spec.Adds result text.old text.new line.now }
 {
     if line.len() > MAX_REPORT - text.len() {
@@ -240,7 +241,7 @@ pub fn run_central(
     checked: &Checked,
     script: &[(u32, CentralLine)],
 ) -> Result<Bytes, RunFault>
-    requires { length script.now ≤ MAX_LINES }
+    requires { length script.now ≤ max_lines }
     ensures { spec.GivesText result (spec.central_text checked.now script.now) }
 {
     let mut run = Run::first(alloc, checked)?;

@@ -6,6 +6,7 @@ ghost use Rattle.std.specs.Str.{bytes_eq};
 ghost use Rattle.wf_model.specs.Accepted.{IsAccepted};
 ghost use Rattle.wf_audit.specs.Names as spec;
 ghost use Rattle.wf_audit.specs.Finders.{finder_of};
+ghost use Rattle.wf_model.specs.Limits.{max_acts, max_events, max_units, max_vars};
 
 use std::alloc::Global;
 use std::collections::HashMap;
@@ -84,7 +85,7 @@ fn note<'a>(
 }
 
 fn unit_numbers<'a>(alloc: Global, units: &'a [Name]) -> Result<HashMap<&'a [u8], u32>, NoMemory>
-    requires { length units.now ≤ MAX_UNITS }
+    requires { length units.now ≤ max_units }
     ensures { IfOk result (λ numbers. spec.found_in numbers ≡ (λ name. position_from (λ unit. bytes_eq name unit) 0 units.now)) }
 {
     let mut numbers = HashMap::new(alloc);
@@ -95,7 +96,7 @@ fn unit_numbers<'a>(alloc: Global, units: &'a [Name]) -> Result<HashMap<&'a [u8]
 }
 
 fn event_numbers<'a>(alloc: Global, events: &'a [Event]) -> Result<HashMap<&'a [u8], u32>, NoMemory>
-    requires { length events.now ≤ MAX_EVENTS }
+    requires { length events.now ≤ max_events }
     ensures { IfOk result (λ numbers. spec.found_in numbers ≡ (λ name. position_from (λ event. bytes_eq name event.name) 0 events.now)) }
 {
     let mut numbers = HashMap::new(alloc);
@@ -106,7 +107,7 @@ fn event_numbers<'a>(alloc: Global, events: &'a [Event]) -> Result<HashMap<&'a [
 }
 
 fn act_numbers<'a>(alloc: Global, acts: &'a [Activity]) -> Result<HashMap<&'a [u8], u32>, NoMemory>
-    requires { length acts.now ≤ MAX_ACTS }
+    requires { length acts.now ≤ max_acts }
     ensures { IfOk result (λ numbers. spec.found_in numbers ≡ (λ name. position_from (λ act. bytes_eq name act.name) 0 acts.now)) }
 {
     let mut numbers = HashMap::new(alloc);
@@ -117,7 +118,7 @@ fn act_numbers<'a>(alloc: Global, acts: &'a [Activity]) -> Result<HashMap<&'a [u
 }
 
 fn var_numbers<'a>(alloc: Global, vars: &'a [Variable]) -> Result<HashMap<&'a [u8], u32>, NoMemory>
-    requires { length vars.now ≤ MAX_VARS }
+    requires { length vars.now ≤ max_vars }
     ensures { IfOk result (λ numbers. spec.found_in numbers ≡ (λ name. position_from (λ variable. bytes_eq name variable.name) 0 vars.now)) }
 {
     let mut numbers = HashMap::new(alloc);

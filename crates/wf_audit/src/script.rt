@@ -5,6 +5,7 @@ ghost use Rattle.wf_model.specs.Accepted.{IsAccepted};
 ghost use Rattle.wf_lex.specs.Lex.{tokens_of};
 ghost use Rattle.wf_audit.specs.Finders.{finder_of};
 ghost use Rattle.wf_audit.specs.Script as spec;
+ghost use Rattle.wf_model.specs.Limits.{max_input};
 
 use crate::lines::split_line;
 use crate::names::Names;
@@ -111,7 +112,7 @@ fn said_by(
 
 // The tokens of a line, if it has no fault.
 fn line_tokens(alloc: Global, line: &[u8]) -> Result<Option<List<Token>>, NoMemory>
-    requires { length line.now ≤ MAX_INPUT }
+    requires { length line.now ≤ max_input }
     ensures { IfOk result (λ found. found ≡ result_ok (tokens_of line.now)) }
 {
     match tokens(alloc, line) {
@@ -129,7 +130,7 @@ fn line_at(
     number: u32,
     line: &[u8],
 ) -> Result<Option<CentralLine>, ScriptFault>
-    requires { length line.now ≤ MAX_INPUT }
+    requires { length line.now ≤ max_input }
     ensures { spec.Gives result (spec.line_at (finder_of names.now) number line.now) }
 {
     let said = match line_tokens(alloc, line)? {
@@ -162,7 +163,7 @@ pub fn read_central(
     script: &[u8],
 ) -> Result<List<(u32, CentralLine)>, ScriptFault>
     requires accepted { IsAccepted chart.now }
-    requires within { length script.now ≤ MAX_INPUT }
+    requires within { length script.now ≤ max_input }
     ensures { spec.Gives result (spec.script_of chart.now script.now) }
 {
     let names = Names::of(alloc, chart)?;

@@ -1,6 +1,6 @@
 //! The calls below the top call, each over a chart that is read and checked.
 ghost use Rattle.std.specs.Prelude.{◌≤◌, length};
-ghost use Rattle.wf_model.specs.declared.limits.TheConstants.{MAX_INPUT};
+ghost use Rattle.wf_model.specs.Limits.{max_input};
 
 use std::alloc::Global;
 use std::test::Fail;
@@ -30,7 +30,7 @@ or R at a { basic S at a; }
 
 /// The chart of a text.
 fn checked(alloc: Global, text: &[u8]) -> Result<Checked, Fail>
-    requires { length text.now ≤ MAX_INPUT }
+    requires { length text.now ≤ max_input }
 {
     Ok(check(alloc, read_chart(alloc, text)?)?)
 }

@@ -1,6 +1,6 @@
 //! The canonical texts of charts, each of which is read back as it is printed.
 ghost use Rattle.std.specs.Prelude.{◌≤◌, length};
-ghost use Rattle.wf_model.specs.declared.limits.TheConstants.{MAX_INPUT};
+ghost use Rattle.wf_model.specs.Limits.{max_input};
 
 use std::alloc::Global;
 use std::test::Fail;
@@ -11,7 +11,7 @@ use wf_text::read_chart;
 
 /// The canonical text of the chart that the text means.
 fn printed(alloc: Global, text: &[u8]) -> Result<Bytes, Fail>
-    requires { length text.now ≤ MAX_INPUT }
+    requires { length text.now ≤ max_input }
 {
     let checked = check(alloc, read_chart(alloc, text)?)?;
     Ok(print_chart(alloc, &checked)?)

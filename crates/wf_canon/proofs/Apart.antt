@@ -4,7 +4,7 @@ use Rattle.std.specs.List.{take_while, list_all}
 use Rattle.std.specs.Fmt.{decimal}
 use Rattle.std.proofs.lemmas.Bool.Decides.{nat_tests}
 use lib.Chars.{codes}
-use Rattle.wf_model.specs.declared.limits.TheConstants.{MAX_TEXT, MAX_INT}
+use Rattle.wf_model.specs.Limits.{max_text, max_int}
 use Rattle.wf_model.specs.declared.chart.Chart.{Chart}
 use Rattle.wf_model.specs.declared.expr.Op.{Op}
 use Rattle.wf_model.specs.declared.expr.Op.TheVariants as o
@@ -60,9 +60,9 @@ digits_token (b ∷ bs) h some =
     let p = and_both (is_digit b) (list_all is_digit bs) h in
     rw (digit_is_no_letter b p.0, p.0) (ap (λ (n : ℕ). Some (kinds.Int, n)) (all_taken is_digit bs p.1))
 
-pub int_token : (n : ℕ) → nat_le n MAX_INT ≡ true → IsToken kinds.Int (decimal n) []
+pub int_token : (n : ℕ) → nat_le n max_int ≡ true → IsToken kinds.Int (decimal n) []
 int_token n h =
-    let fits : n ≤ MAX_INT = grind (arith, nat_tests) in
+    let fits : n ≤ max_int = grind (arith, nat_tests) in
     let is = decimal_is n (omega arith) in
     digits_token (decimal n) is.all is.some
 
@@ -146,7 +146,7 @@ module _ (chart : Chart) (named : is_named chart ≡ true) where
   apart (e.Bool true) rest known short stops = true_apart rest stops
   apart (e.Bool false) rest known short stops = false_apart rest stops
   apart (e.Int n) rest known short stops = (int_token n short, no_digit (get_or rest 0 0) stops, tt)
-  apart (e.Text t) rest known short stops = (text_token t (and_both (is_text t) (nat_le (length t) MAX_TEXT) short).0, refl, tt)
+  apart (e.Text t) rest known short stops = (text_token t (and_both (is_text t) (nat_le (length t) max_text) short).0, refl, tt)
   apart (e.Var x) rest known short stops = (word_token (var_name chart x) (name_is_word (var_name chart x) (var_named chart named x known)), stops, tt)
   apart (e.In s) rest known short stops = test_apart (codes "in") (state_name chart s) rest in_token (state_named chart named s known)
   apart (e.Count a) rest known short stops = test_apart (codes "count") (act_name chart a) rest count_token (act_named chart named a known)

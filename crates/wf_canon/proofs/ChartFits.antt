@@ -3,7 +3,7 @@ use Rattle.std.proofs.Common.{◌≡◌, ℕ, zero, suc, ◌+◌, ◌*◌, ◌^�
 use Rattle.std.specs.List.{list_all}
 use Rattle.std.specs.Fmt.{decimal}
 use lib.Chars.{codes}
-use Rattle.wf_model.specs.declared.limits.TheConstants.{MAX_DEPTH, MAX_TEXT}
+use Rattle.wf_model.specs.Limits.{max_depth, max_text}
 use Rattle.wf_model.specs.declared.ids.UnitId.{UnitId}
 use Rattle.wf_model.specs.declared.ids.EventId.{EventId}
 use Rattle.wf_model.specs.declared.ids.VarId.{VarId}
@@ -87,7 +87,7 @@ literal_fits (v.Int (pos n)) h = let small = below n (2 ^ 63) h in number_fits n
 literal_fits (v.Int (negsuc n)) h =
     let small = below n (2 ^ 63) h in
     join (sign (codes "-") ∷ blank ∷ []) (Span.token token.Int (decimal (suc n)) ∷ []) (codes "- ") (decimal (suc n)) minus_fits (number_fits (suc n) (omega (arith, small)))
-literal_fits (v.Text t) h = quoted_fits t (and_both (is_text t) (nat_le (length t) MAX_TEXT) h).0
+literal_fits (v.Text t) h = quoted_fits t (and_both (is_text t) (nat_le (length t) max_text) h).0
 
 sort_fits : (sort : Sort) → Fits false true (one (sort_word sort)) (sort_word sort)
 sort_fits sorts.Bool = word_fits (codes "bool") refl
@@ -252,13 +252,13 @@ module _ (chart : Chart) (named : is_named chart ≡ true) where
       let events = flat_map (spans.event_line chart) (drop 1 chart.events) in
       let vars = flat_map spans.var_line chart.vars in
       let acts = flat_map (spans.activity_line chart) chart.acts in
-      let nested = state_spans chart MAX_DEPTH 0 0 in
+      let nested = state_spans chart max_depth 0 0 in
       let transitions = flat_map (spans.transition_line chart) chart.transitions in
       let units_text = flat_map decl.unit_line chart.units in
       let events_text = flat_map (decl.event_line chart) (drop 1 chart.events) in
       let vars_text = flat_map decl.var_line chart.vars in
       let acts_text = flat_map (decl.activity_line chart) chart.acts in
-      let nested_text = state_text chart MAX_DEPTH 0 0 in
+      let nested_text = state_text chart max_depth 0 0 in
       let transitions_text = flat_map (transition_line chart) chart.transitions in
       three (spans.chart_line chart ++ units ++ events ++ vars ++ acts) nested transitions (decl.chart_line chart ++ units_text ++ events_text ++ vars_text ++ acts_text) nested_text transitions_text
       (five (spans.chart_line chart) units events vars acts (decl.chart_line chart) units_text events_text vars_text acts_text
@@ -272,7 +272,7 @@ module _ (chart : Chart) (named : is_named chart ≡ true) where
       (λ x p. let q = and_both (is_name x.name) (is_short_value x.first) p in var_line_fits x q.0 q.1))
       (each false (λ x. is_name x.name && is_known_activity chart x) (spans.activity_line chart) (decl.activity_line chart) chart.acts
       (all_both (λ x. is_name x.name) (is_known_activity chart) chart.acts names.acts has.acts) activity_line_fits))
-      (state_fits MAX_DEPTH 0 0 (all_both (λ x. is_name x.name) (λ x. is_unit chart x.unit) chart.states names.states has.states))
+      (state_fits max_depth 0 0 (all_both (λ x. is_name x.name) (λ x. is_unit chart x.unit) chart.states names.states has.states))
       (each false (λ x. is_known_transition chart x && is_short_transition x) (spans.transition_line chart) (transition_line chart) chart.transitions
       (all_both (is_known_transition chart) is_short_transition chart.transitions has.transitions short.1) transition_line_fits)
 

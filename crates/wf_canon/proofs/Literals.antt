@@ -5,7 +5,7 @@ use Rattle.std.specs.Fmt.{decimal}
 use Rattle.std.proofs.lemmas.Fmt.{decimal_by_steps}
 use Rattle.std.proofs.lemmas.List.Sums.{take_while-cons, fold-append}
 use Rattle.std.proofs.lemmas.Bool.Decides.{nat_tests}
-use Rattle.wf_model.specs.declared.limits.TheConstants.{MAX_TEXT, MAX_INT}
+use Rattle.wf_model.specs.Limits.{max_text, max_int}
 use Rattle.wf_model.specs.Names.{is_digit}
 use Rattle.wf_model.specs.Txt.{is_text_char, is_text}
 use Rattle.wf_semantics.proofs.Bools.{and_both, and_true}
@@ -42,11 +42,11 @@ decimal_is = decimal_by_steps IsNumberOf
       some = omega (arith, length-append digits ((48 + n % 10) ∷ []));
     })
 
-pub int_is_read : (n : ℕ) → n ≤ MAX_INT → number_up_to MAX_INT (decimal n) ≡ Some n
+pub int_is_read : (n : ℕ) → n ≤ max_int → number_up_to max_int (decimal n) ≡ Some n
 unfolding number_up_to
 int_is_read n fits =
     let is = (decimal_is n (omega arith)).value in
-    let small : nat_le (number (decimal n)) MAX_INT ≡ true = grind (arith, nat_tests) in
+    let small : nat_le (number (decimal n)) max_int ≡ true = grind (arith, nat_tests) in
     rw small (ap Some is)
 
 -- ---- Texts
@@ -57,9 +57,9 @@ text_before (c ∷ t) rest h =
     let p = and_both (is_text_char c) (is_text t) h in
     take_while-cons is_text_char c (t ++ 34 ∷ rest) ∙ rw (p.0) (ap (λ cs. c ∷ cs) (text_before t rest p.1))
 
-pub text_is_read : (t : List ℕ) → (is_text t && nat_le (length t) MAX_TEXT) ≡ true → short_text (quoted t) ≡ Some t
+pub text_is_read : (t : List ℕ) → (is_text t && nat_le (length t) max_text) ≡ true → short_text (quoted t) ≡ Some t
 unfolding short_text
 text_is_read t h =
-    let p = and_both (is_text t) (nat_le (length t) MAX_TEXT) h in
+    let p = and_both (is_text t) (nat_le (length t) max_text) h in
     let whole : characters (quoted t) ≡ t = text_before t [] p.0 in
     rw (whole, p.1) refl

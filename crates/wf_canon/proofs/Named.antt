@@ -3,7 +3,7 @@ use Rattle.std.proofs.Common.{◌≡◌, ℕ, zero, suc, ◌<◌, ◌≤◌, not
 use Rattle.std.specs.List.{list_all}
 use Rattle.std.specs.Option.{option_map_or}
 use Rattle.std.proofs.lemmas.Bool.Decides.{nat_tests}
-use Rattle.wf_model.specs.declared.limits.TheConstants.{MAX_NAME}
+use Rattle.wf_model.specs.Limits.{max_name}
 use Rattle.wf_model.specs.declared.ids.UnitId.{UnitId}
 use Rattle.wf_model.specs.declared.ids.EventId.{EventId}
 use Rattle.wf_model.specs.declared.ids.VarId.{VarId}
@@ -32,10 +32,10 @@ pub name_is_word : (name : List ℕ) → is_name name ≡ true → is_word name 
 unfolding is_name
 name_is_word name h = grind arith
 
-pub name_is_short : (name : List ℕ) → is_name name ≡ true → length name ≤ MAX_NAME
+pub name_is_short : (name : List ℕ) → is_name name ≡ true → length name ≤ max_name
 unfolding is_name
 name_is_short name h =
-    let short : nat_le (length name) MAX_NAME ≡ true = grind arith in
+    let short : nat_le (length name) max_name ≡ true = grind arith in
     grind (arith, nat_tests)
 
 name_is_free : (name : List ℕ) → is_name name ≡ true → is_reserved name ≡ false

@@ -1,7 +1,7 @@
 -- The canonical text of an expression is read back.
 use Rattle.std.proofs.Common.{◌≡◌, ℕ, ◌≤◌, List, [], ◌++◌, length, drop, map, refl, sym, ◌∙◌, ap, subst, arith, append-nil, append_assoc}
 use Rattle.std.proofs.lemmas.List.{drop-map, drop_at}
-use Rattle.wf_model.specs.declared.limits.TheConstants.{MAX_OPEN}
+use Rattle.wf_model.specs.Limits.{max_open}
 use Rattle.wf_model.specs.declared.chart.Chart.{Chart}
 use Rattle.wf_model.specs.declared.expr.Expr.{Expr}
 use Rattle.wf_model.specs.Accepted.{nodes}
@@ -21,8 +21,8 @@ use Rattle.wf_canon.proofs.Apart.{apart-append, expr_is_apart}
 pub expr_is_read : ExprIsRead
 expr_is_read chart x i more named are known short few next none =
     let ws = lexemes_of (expr_spans chart x) in
-    let open_few : nodes x ≤ MAX_OPEN = omega (arith, few) in
-    spelled_is_read i ws more x (to_expr i.names MAX_OPEN ws x (expr_is_spelled chart i.names x MAX_OPEN named are known short open_few)) few next none
+    let open_few : nodes x ≤ max_open = omega (arith, few) in
+    spelled_is_read i ws more x (to_expr i.names max_open ws x (expr_is_spelled chart i.names x max_open named are known short open_few)) few next none
 
 module _ (chart : Chart) (x : Expr) (before after : List Span) where
   abbrev middle : List Span

@@ -3,7 +3,7 @@ use Rattle.std.proofs.Common.{◌≡◌, ◌≢◌, ℕ, ◌+◌, ◌<◌, ◌�
 use Rattle.std.proofs.lemmas.Bool.{cases_Bool}
 use Rattle.std.proofs.lemmas.List.{drop_at}
 use Rattle.std.proofs.lemmas.Bool.Decides.{nat_tests}
-use Rattle.wf_model.specs.declared.limits.TheConstants.{MAX_TOKENS}
+use Rattle.wf_model.specs.Limits.{max_tokens}
 use Rattle.wf_lex.specs.declared.token.TokenKind.{TokenKind}
 use Rattle.wf_lex.specs.declared.token.Token.{Token}
 use Rattle.wf_lex.specs.declared.token.LexFault.{LexFault}
@@ -45,11 +45,11 @@ end_passed len count false (b ∷ bytes) h =
     ]
 
 -- a token at the front, before the rest
-token_passed : (len count at : ℕ) (kind : TokenKind) (bytes more : List ℕ) → IsToken kind bytes more → at + length (bytes ++ more) ≡ len → count ≢ MAX_TOKENS
+token_passed : (len count at : ℕ) (kind : TokenKind) (bytes more : List ℕ) → IsToken kind bytes more → at + length (bytes ++ more) ≡ len → count ≢ max_tokens
     → lex len count 0 false (bytes ++ more) ≡ with_first (record { kind = kind; start = at; end = at + length bytes } ∷ []) (lex len (count + 1) 0 false more)
 token_passed len count at kind [] more is all few = absurd is
 token_passed len count at kind (b ∷ bs) more is all few =
-    let not_full : (count == MAX_TOKENS) ≡ false = grind (arith, nat_tests) in
+    let not_full : (count == max_tokens) ≡ false = grind (arith, nat_tests) in
     let start : place len (b ∷ (bs ++ more)) ≡ at = omega (arith, all) in
     let end : at + 1 + length bs ≡ at + length (b ∷ bs) = omega arith in
     lex-token len count b (length bs) (bs ++ more) kind (no_blank b (bs ++ more) kind (length bs) is) (no_hash b (bs ++ more) kind (length bs) is) is not_full
@@ -58,7 +58,7 @@ token_passed len count at kind (b ∷ bs) more is all few =
 
 -- after so many tokens, so many more never come to the limit
 abbrev NeverFull : (count more : ℕ) → Type 0
-NeverFull count more = (k : ℕ) → k < more → count + k ≢ MAX_TOKENS
+NeverFull count more = (k : ℕ) → k < more → count + k ≢ max_tokens
 
 slices_are_answered : (ts : List Token) (len count at : ℕ) (bytes : List ℕ) → AreSlices false at bytes ts → at + length bytes ≡ len → NeverFull count (length ts)
     → lex len count 0 false bytes ≡ Ok ts
@@ -67,7 +67,7 @@ slices_are_answered (t ∷ ts) len count at bytes (gap, body, rest, parts, passe
     let whole : length bytes ≡ length gap + length (body ++ rest) = ap length parts ∙ length-append gap (body ++ rest) in
     let here : t.start + length (body ++ rest) ≡ len = omega (arith, size, whole, start) in
     let behind : t.end + length rest ≡ len = omega (arith, here, end, length-append body rest) in
-    let not_full : count ≢ MAX_TOKENS = λ full. room 0 (omega arith) (omega (arith, full)) in
+    let not_full : count ≢ max_tokens = λ full. room 0 (omega arith) (omega (arith, full)) in
     let more_room : NeverFull (count + 1) (length ts) = λ k h full. room (k + 1) (omega (arith, h)) (omega (arith, full)) in
     ap (lex len count 0 false) parts
     ∙ gap_passed len count false gap (body ++ rest) passed
@@ -75,7 +75,7 @@ slices_are_answered (t ∷ ts) len count at bytes (gap, body, rest, parts, passe
     ∙ ap (with_first (record { kind = t.kind; start = t.start; end = t.start + length body } ∷ [])) (slices_are_answered ts len (count + 1) t.end rest more behind more_room)
     ∙ ap (λ (n : ℕ). let r : Result (List Token) LexFault = Ok (record { kind = t.kind; start = t.start; end = n } ∷ ts) in r) (sym end)
 
-pub answered : (text : List ℕ) (tokens : List Token) → length tokens ≤ MAX_TOKENS → IsCut text tokens → tokens_of text ≡ Ok tokens
+pub answered : (text : List ℕ) (tokens : List Token) → length tokens ≤ max_tokens → IsCut text tokens → tokens_of text ≡ Ok tokens
 unfolding tokens_of
 answered text tokens few cut =
     slices_are_answered tokens (length text) 0 0 text cut (omega arith) (λ k h full. omega (arith, few, h, full))
@@ -84,9 +84,9 @@ pub cut_is_answered : CutIsAnswered
 cut_is_answered text tokens few = (answered text tokens few, tokens_sliced text tokens)
 
 -- from a count above the limit on, no token is one too many
-cut_is_unbounded : (text : List ℕ) (tokens : List Token) → IsCut text tokens → lex (length text) (MAX_TOKENS + 1) 0 false text ≡ Ok tokens
+cut_is_unbounded : (text : List ℕ) (tokens : List Token) → IsCut text tokens → lex (length text) (max_tokens + 1) 0 false text ≡ Ok tokens
 cut_is_unbounded text tokens cut =
-    slices_are_answered tokens (length text) (MAX_TOKENS + 1) 0 text cut (omega arith) (λ k h full. omega (arith, full))
+    slices_are_answered tokens (length text) (max_tokens + 1) 0 text cut (omega arith) (λ k h full. omega (arith, full))
 
 pub cuts_are_equal : CutsAreEqual
 cuts_are_equal text tokens other cut also =

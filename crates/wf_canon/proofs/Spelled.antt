@@ -11,7 +11,7 @@ use Rattle.wf_model.specs.declared.expr.Expr.TheVariants as e
 use Rattle.wf_model.specs.Accepted.{nodes, is_known_expr, is_named}
 use Rattle.wf_semantics.proofs.Bools.{and_both}
 use Rattle.wf_lex.specs.declared.token.TokenKind.TheVariants as kinds
-use Rattle.wf_model.specs.declared.limits.TheConstants.{MAX_INT}
+use Rattle.wf_model.specs.Limits.{max_int}
 use Rattle.wf_cursor.specs.declared.names.Declared.TheVariants as declared_as_a
 use Rattle.wf_cursor.specs.declared.piece.Piece.TheVariants as pieces
 use Rattle.wf_cursor.specs.Pieces.{piece_of, word_piece, state_word, moving_word, value_word, sign_piece, comparing_sign, reckoning_sign}
@@ -217,7 +217,7 @@ module _ (chart : Chart) (names : Names) (named : is_named chart ≡ true) (are 
   unfolding Rattle.wf_model.specs.declared.expr.Expr.TheBlock.hidden-the_row-Expr-0 denote.Hole.Carrier.hidden
   spelled (e.Bool true) depth known short room = phrase.atom_true (word_lexeme (codes "true")) true_is
   spelled (e.Bool false) depth known short room = phrase.atom_false (word_lexeme (codes "false")) false_is
-  spelled (e.Int n) depth known short room = phrase.atom_int (lexeme kinds.Int (decimal n)) n (int_is (decimal n)) (int_is_read n (below_or_at n MAX_INT short))
+  spelled (e.Int n) depth known short room = phrase.atom_int (lexeme kinds.Int (decimal n)) n (int_is (decimal n)) (int_is_read n (below_or_at n max_int short))
   spelled (e.Text t) depth known short room = phrase.atom_text (lexeme kinds.Text (quoted t)) t (text_is (quoted t)) (text_is_read t short)
   spelled (e.Var x) depth known short room =
       phrase.atom_var (word_lexeme (var_name chart x)) x (name_lexeme names (declared_as_a.Var x) (var_name chart x) (var_named chart named x known) (are.vars x (below x.0 (length chart.vars) known)))

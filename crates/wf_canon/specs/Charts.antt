@@ -3,7 +3,7 @@ use Rattle.std.specs.Prelude.{ℕ, zero, suc, ◌+◌, ◌==◌, ◌++◌, Bool,
 use Rattle.std.specs.List.{list_all}
 use Rattle.std.specs.Fmt.{decimal}
 use lib.Chars.{codes}
-use Rattle.wf_model.specs.declared.limits.TheConstants.{MAX_DEPTH, MAX_TEXT}
+use Rattle.wf_model.specs.Limits.{max_depth, max_text}
 use Rattle.wf_model.specs.declared.ids.UnitId.{UnitId}
 use Rattle.wf_model.specs.declared.ids.EventId.{EventId}
 use Rattle.wf_model.specs.declared.value.Val.{Val}
@@ -145,16 +145,16 @@ state_spans chart (suc levels) depth s =
 unfoldable pub chart_spans : Chart → List Span
 chart_spans chart =
     chart_line chart ++ flat_map unit_line chart.units ++ flat_map (event_line chart) (drop 1 chart.events)
-    ++ flat_map var_line chart.vars ++ flat_map (activity_line chart) chart.acts ++ state_spans chart MAX_DEPTH 0 0
+    ++ flat_map var_line chart.vars ++ flat_map (activity_line chart) chart.acts ++ state_spans chart max_depth 0 0
     ++ flat_map (transition_line chart) chart.transitions
 
--- ---- literals that can be read: each Int of an expression is at most MAX_INT, each first value fits, and each Text is one of at
--- most MAX_TEXT text characters
+-- ---- literals that can be read: each Int of an expression is at most max_int, each first value fits, and each Text is one of at
+-- most max_text text characters
 
 abbrev pub is_short_value : Val → Bool
 is_short_value (v.Bool b) = true
 is_short_value (v.Int z) = fits_i64 z
-is_short_value (v.Text t) = is_text t && nat_le (length t) MAX_TEXT
+is_short_value (v.Text t) = is_text t && nat_le (length t) max_text
 
 abbrev pub is_short_action : Action → Bool
 is_short_action (act.Assign x value) = has_short_literals value

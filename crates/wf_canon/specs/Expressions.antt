@@ -2,7 +2,7 @@
 use Rattle.std.specs.Prelude.{◌≡◌, ℕ, ◌++◌, ◌<◌, Bool, true, ◌&&◌, nat_le, List, [], ◌∷◌, length, Some}
 use Rattle.std.specs.Fmt.{decimal}
 use lib.Chars.{codes}
-use Rattle.wf_model.specs.declared.limits.TheConstants.{MAX_TEXT, MAX_INT}
+use Rattle.wf_model.specs.Limits.{max_text, max_int}
 use Rattle.wf_model.specs.declared.ids.VarId.{VarId}
 use Rattle.wf_model.specs.declared.ids.StateId.{StateId}
 use Rattle.wf_model.specs.declared.ids.ActId.{ActId}
@@ -62,10 +62,10 @@ expr_spans chart (e.Neg' p (more_of-Expr x end_of-Expr)) = sign (codes "(") ∷ 
 expr_spans chart (e.Bin' op p (more_of-Expr x end_of-Expr) q (more_of-Expr y end_of-Expr)) =
     sign (codes "(") ∷ (expr_spans chart x ++ blank ∷ op_span op ∷ blank ∷ (expr_spans chart y ++ sign (codes ")") ∷ []))
 
--- no Int is too great, and each Text is one of at most MAX_TEXT text characters
+-- no Int is too great, and each Text is one of at most max_text text characters
 abbrev pub has_short_literals : Expr → Bool
-has_short_literals (e.Int n) = nat_le n MAX_INT
-has_short_literals (e.Text t) = is_text t && nat_le (length t) MAX_TEXT
+has_short_literals (e.Int n) = nat_le n max_int
+has_short_literals (e.Text t) = is_text t && nat_le (length t) max_text
 has_short_literals (e.Not' p (more_of-Expr x end_of-Expr)) = has_short_literals x
 has_short_literals (e.Neg' p (more_of-Expr x end_of-Expr)) = has_short_literals x
 has_short_literals (e.Bin' op p (more_of-Expr x end_of-Expr) q (more_of-Expr y end_of-Expr)) = has_short_literals x && has_short_literals y

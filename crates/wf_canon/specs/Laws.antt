@@ -1,6 +1,6 @@
 -- The canonical text of an expression is cut into tokens, and they are read as that expression.
 use Rattle.std.specs.Prelude.{◌≡◌, ◌≤◌, ◌↔◌, ℕ, ◌++◌, false, List, [], length, drop, slice_index, map, Ok, IsTrue}
-use Rattle.wf_model.specs.declared.limits.TheConstants.{MAX_TOKENS, MAX_NODES}
+use Rattle.wf_model.specs.Limits.{max_tokens, max_nodes}
 use Rattle.wf_model.specs.declared.chart.Chart.{Chart}
 use Rattle.wf_model.specs.declared.expr.Expr.{Expr}
 use Rattle.wf_model.specs.Accepted.{nodes, is_known_expr, is_named, IsAccepted}
@@ -19,9 +19,9 @@ use Rattle.wf_canon.specs.Spans.{Span, written, lexemes_of, AreApart}
 use Rattle.wf_canon.specs.Expressions.{expr_spans, has_short_literals, AreDeclared}
 use Rattle.wf_canon.specs.Charts.{chart_spans, is_short}
 
--- at most MAX_TOKENS tokens that a text is cut into are those that the tokenizer answers, and the other way round
+-- at most max_tokens tokens that a text is cut into are those that the tokenizer answers, and the other way round
 abbrev pub CutIsAnswered : Type 0
-CutIsAnswered = (text : List ℕ) (tokens : List Token) → length tokens ≤ MAX_TOKENS → (IsCut text tokens ↔ (tokens_of text ≡ Ok tokens))
+CutIsAnswered = (text : List ℕ) (tokens : List Token) → length tokens ≤ max_tokens → (IsCut text tokens ↔ (tokens_of text ≡ Ok tokens))
 
 -- a text is cut in at most one way
 abbrev pub CutsAreEqual : Type 0
@@ -33,10 +33,10 @@ EveryWrittenIsCut =
     (spans : List Span) → AreApart spans [] →
     (tokens : List Token) × IsCut (written spans) tokens × (map (lexeme_of (written spans)) tokens ≡ lexemes_of spans)
 
--- the tokenizer answers them, where there are at most MAX_TOKENS
+-- the tokenizer answers them, where there are at most max_tokens
 abbrev pub WrittenIsCut : Type 0
 WrittenIsCut =
-    (spans : List Span) → AreApart spans [] → length (lexemes_of spans) ≤ MAX_TOKENS →
+    (spans : List Span) → AreApart spans [] → length (lexemes_of spans) ≤ max_tokens →
     (tokens : List Token) × (tokens_of (written spans) ≡ Ok tokens) × (map (lexeme_of (written spans)) tokens ≡ lexemes_of spans)
 
 -- the spans of an expression are its canonical text
@@ -60,7 +60,7 @@ ExprIsSpelled =
 abbrev pub ExprIsRead : Type 0
 ExprIsRead =
     (chart : Chart) (x : Expr) (i : Input) (more : List Lexeme) →
-    IsTrue (is_named chart) → AreDeclared i.names chart → IsTrue (is_known_expr chart x) → IsTrue (has_short_literals x) → nodes x ≤ MAX_NODES →
+    IsTrue (is_named chart) → AreDeclared i.names chart → IsTrue (is_known_expr chart x) → IsTrue (has_short_literals x) → nodes x ≤ max_nodes →
     lexemes i ≡ lexemes_of (expr_spans chart x) ++ more → IsNoOperator (first_piece more) →
     expr i ≡ Ok (x, behind (length (lexemes_of (expr_spans chart x))) (nodes x) i)
 
@@ -72,9 +72,9 @@ text_around before chart x after = written before ++ expr_text chart x ++ writte
 abbrev pub ExprIsReadBack : Type 0
 ExprIsReadBack =
     (chart : Chart) (x : Expr) (before after : List Span) →
-    IsTrue (is_named chart) → IsTrue (is_known_expr chart x) → IsTrue (has_short_literals x) → nodes x ≤ MAX_NODES →
+    IsTrue (is_named chart) → IsTrue (is_known_expr chart x) → IsTrue (has_short_literals x) → nodes x ≤ max_nodes →
     AreApart before (expr_text chart x ++ written after) → is_word_char (slice_index (written after) 0) ≡ false → AreApart after [] →
-    length (lexemes_of (before ++ expr_spans chart x ++ after)) ≤ MAX_TOKENS → IsNoOperator (first_piece (lexemes_of after)) →
+    length (lexemes_of (before ++ expr_spans chart x ++ after)) ≤ max_tokens → IsNoOperator (first_piece (lexemes_of after)) →
     (tokens : List Token)
     × (tokens_of (text_around before chart x after) ≡ Ok tokens)
     × ((i : Input) → i.text ≡ text_around before chart x after → i.left ≡ drop (length (lexemes_of before)) tokens → AreDeclared i.names chart →
@@ -86,8 +86,8 @@ EveryChartIsCut =
     (chart : Chart) → IsAccepted chart → IsTrue (is_short chart) →
     (tokens : List Token) × IsCut (chart_text chart) tokens × (map (lexeme_of (chart_text chart)) tokens ≡ lexemes_of (chart_spans chart))
 
--- The tokenizer answers them, where there are at most MAX_TOKENS. A large chart's text may have more.
+-- The tokenizer answers them, where there are at most max_tokens. A large chart's text may have more.
 abbrev pub ChartIsCut : Type 0
 ChartIsCut =
-    (chart : Chart) → IsAccepted chart → IsTrue (is_short chart) → length (lexemes_of (chart_spans chart)) ≤ MAX_TOKENS →
+    (chart : Chart) → IsAccepted chart → IsTrue (is_short chart) → length (lexemes_of (chart_spans chart)) ≤ max_tokens →
     (tokens : List Token) × (tokens_of (chart_text chart) ≡ Ok tokens) × (map (lexeme_of (chart_text chart)) tokens ≡ lexemes_of (chart_spans chart))

@@ -4,7 +4,7 @@ use Rattle.std.proofs.lemmas.List.{length-map}
 use Rattle.std.proofs.lemmas.List.FromFn.{length-range_with_len}
 use Rattle.std.specs.Option.{option_map}
 use Rattle.std.proofs.lemmas.Bool.{leb-true}
-use Rattle.wf_model.specs.declared.limits.TheConstants.{MAX_EVENTS, MAX_TRANSITIONS, MAX_ACTIONS}
+use Rattle.wf_model.specs.Limits.{max_events, max_transitions, max_actions}
 use Rattle.wf_model.specs.declared.chart.Action.{Action}
 use Rattle.wf_model.specs.declared.chart.Action.TheVariants.{Assign, Raise, Start}
 use Rattle.wf_model.specs.declared.chart.Transition.{Transition}
@@ -19,11 +19,11 @@ use Rattle.wf_semantics.specs.Run.{CentralState, fired_in, new_items, is_at}
 use Rattle.wf_semantics.proofs.Facts.{rules, chart_of}
 use Rattle.wf_effects.proofs.Expressions.{actions_are}
 
-few_of : (chart : Chart) → is_small chart ≡ true → length chart.events ≤ MAX_EVENTS
+few_of : (chart : Chart) → is_small chart ≡ true → length chart.events ≤ max_events
 unfolding is_small
-few_of chart h = leb-true (length chart.events) MAX_EVENTS (grind arith)
+few_of chart h = leb-true (length chart.events) max_events (grind arith)
 
-pub few_events : (chart : Chart) → IsAccepted chart → length chart.events ≤ MAX_EVENTS
+pub few_events : (chart : Chart) → IsAccepted chart → length chart.events ≤ max_events
 few_events chart ok = few_of chart (rules chart ok).small
 
 filter_few : {A : Type 0} (p : A → Bool) (xs : List A) → length (filter p xs) ≤ length xs
@@ -41,14 +41,14 @@ from_few t place (Assign x value ∷ rest) = omega (arith, from_few t (place + 1
 from_few t place (Raise e ∷ rest) = omega (arith, from_few t (place + 1) rest)
 from_few t place (Start a ∷ rest) = omega (arith, from_few t (place + 1) rest)
 
-actions_few : (chart : Chart) → IsAccepted chart → (t : ℕ) → length (actions_of chart t) ≤ MAX_ACTIONS
+actions_few : (chart : Chart) → IsAccepted chart → (t : ℕ) → length (actions_of chart t) ≤ max_actions
 actions_few chart ok t = go (slice_get chart.transitions t) refl
   where
-    go : (o : Option Transition) → slice_get chart.transitions t ≡ o → length (unwrap_or (option_map (λ trans. trans.actions) o) []) ≤ MAX_ACTIONS
+    go : (o : Option Transition) → slice_get chart.transitions t ≡ o → length (unwrap_or (option_map (λ trans. trans.actions) o) []) ≤ max_actions
     go None e = omega arith
     go (Some trans) e = (actions_are chart t trans ok e).few
 
-starts_few : (chart : Chart) → IsAccepted chart → (ts : List ℕ) → length (starts_of chart ts) ≤ length ts * MAX_ACTIONS
+starts_few : (chart : Chart) → IsAccepted chart → (ts : List ℕ) → length (starts_of chart ts) ≤ length ts * max_actions
 starts_few chart ok [] = omega arith
 starts_few chart ok (t ∷ ts) =
     omega (arith, length-append (starts_from t 0 (actions_of chart t)) (starts_of chart ts), from_few t 0 (actions_of chart t), actions_few chart ok t, starts_few chart ok ts)
@@ -57,7 +57,7 @@ fired_few : (chart : Chart) (c : CentralState) (entries : List Entry) → length
 unfolding fired_in
 fired_few chart c entries = filter_few _ (all_transitions chart)
 
-pub few_starts : (chart : Chart) → IsAccepted chart → (c : CentralState) (entries : List Entry) → length (starts_of chart (fired_in chart c entries)) ≤ MAX_TRANSITIONS * MAX_ACTIONS
+pub few_starts : (chart : Chart) → IsAccepted chart → (c : CentralState) (entries : List Entry) → length (starts_of chart (fired_in chart c entries)) ≤ max_transitions * max_actions
 few_starts chart ok c entries =
     omega (
       arith,

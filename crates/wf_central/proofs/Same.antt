@@ -1,6 +1,6 @@
 -- A kept state, field by field.
 use Rattle.std.proofs.Common.{◌≡◌, ℕ, ◌+◌, ◌*◌, ◌<◌, ◌≤◌, ◌++◌, ◌^◌, Bool, true, List, [], length, map, sym, ◌∙◌, ap, ap₂, subst, arith, length-append}
-use Rattle.wf_model.specs.declared.limits.TheConstants.{MAX_TRANSITIONS, MAX_ACTIONS, MAX_STEPS}
+use Rattle.wf_model.specs.Limits.{max_transitions, max_actions, max_steps}
 use Rattle.wf_model.specs.declared.chart.Chart.{Chart}
 use Rattle.wf_model.specs.declared.outer.Outer.{Outer}
 use Rattle.wf_model.specs.declared.outer.Entry.{Entry}
@@ -130,14 +130,14 @@ module _ (chart : Chart) (accepted : IsAccepted chart) where
   started_made kept entries starts made_starts = ap (numbered chart (λ u. length (items_at kept.items u))) made_starts
 
   -- there is room for its items
-  pub room : (kept : Kept) (entries : List Entry) (starts : List StartAt) → IsOf chart kept → kept.taken < MAX_STEPS → starts ≡ starts_of chart (fired_in chart (central_of chart kept) entries)
+  pub room : (kept : Kept) (entries : List Entry) (starts : List StartAt) → IsOf chart kept → kept.taken < max_steps → starts ≡ starts_of chart (fired_in chart (central_of chart kept) entries)
       → (u : ℕ) → length (items_at kept.items u) + length starts < 2 ^ 32
   room kept entries starts of few made_starts u =
       omega (arith, of.few u, ap length made_starts, few_starts chart accepted (central_of chart kept) entries)
 
   -- a step starts no more items than a step can
   grown : (kept : Kept) (stock : Stock) (entries : List Entry) (starts : List StartAt) → IsOf chart kept → starts ≡ starts_of chart (fired_in chart (central_of chart kept) entries)
-      → items_at stock ≡ (λ u. items_closed (state_with (items_at kept.items)) entries u ++ new_items chart u starts) → (u : ℕ) → length (items_at stock u) ≤ (kept.taken + 1) * (MAX_TRANSITIONS * MAX_ACTIONS)
+      → items_at stock ≡ (λ u. items_closed (state_with (items_at kept.items)) entries u ++ new_items chart u starts) → (u : ℕ) → length (items_at stock u) ≤ (kept.taken + 1) * (max_transitions * max_actions)
   grown kept stock entries starts of made_starts e u =
       let here : items_at stock u ≡ items_closed (state_with (items_at kept.items)) entries u ++ new_items chart u starts = λ i. e i u in
       omega (
@@ -159,6 +159,6 @@ module _ (chart : Chart) (accepted : IsAccepted chart) where
     active = keeps next (next_state chart (central_of chart kept) entries).configuration (next_configuration chart (chart_of chart accepted) (central_of chart kept) entries (kept_configuration kept)) rows;
     sorts = sorts;
     stock = stock;
-    few = λ u. subst (λ (n : ℕ). length (items_at next.items u) ≤ n * (MAX_TRANSITIONS * MAX_ACTIONS)) (sym taken) (grown kept next.items entries starts of made_starts items u);
+    few = λ u. subst (λ (n : ℕ). length (items_at next.items u) ≤ n * (max_transitions * max_actions)) (sym taken) (grown kept next.items entries starts of made_starts items u);
     tables = tables ∙ of.tables;
   }

@@ -1,6 +1,6 @@
 -- What a central state keeps, and which state of a chart it is.
 use Rattle.std.specs.Prelude.{◌≡◌, ◌*◌, ◌≤◌, ℕ, Bool, false, List, length, map, unwrap_or, slice_get}
-use Rattle.wf_model.specs.declared.limits.TheConstants.{MAX_TRANSITIONS, MAX_ACTIONS}
+use Rattle.wf_model.specs.Limits.{max_transitions, max_actions}
 use Rattle.wf_model.specs.declared.ids.EventId.{EventId}
 use Rattle.wf_model.specs.declared.value.Val.{Val}
 use Rattle.wf_model.specs.declared.chart.Chart.{Chart}
@@ -39,7 +39,7 @@ pub record IsOf (chart : Chart) (kept : Kept) : Type 0 where
   pub active : kept.active ≡ map (λ z. is_in z (central_of chart kept).configuration) (all_states chart)
   pub sorts : HasSorts chart kept.store
   pub stock : AreOf chart kept.items
-  pub few : (u : ℕ) → length (items_at kept.items u) ≤ kept.taken * (MAX_TRANSITIONS * MAX_ACTIONS)
+  pub few : (u : ℕ) → length (items_at kept.items u) ≤ kept.taken * (max_transitions * max_actions)
   pub tables : kept.tables ≡ tables_of chart
 
 -- what the step does that these entries bring

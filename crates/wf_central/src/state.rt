@@ -2,7 +2,7 @@
 ghost use Rattle.std.specs.Prelude.{◌≡◌, ◌+◌, ◌<◌, Some, length, slice_get, IsTrue, IfOk, OnOk, OnErr};
 ghost use Rattle.wf_model.specs.Accepted.{IsAccepted};
 ghost use Rattle.wf_model.specs.declared.chart.Chart.{Chart as AnyChart};
-ghost use Rattle.wf_model.specs.declared.limits.TheConstants.{MAX_STEPS};
+ghost use Rattle.wf_model.specs.Limits.{max_steps};
 ghost use Rattle.wf_semantics.specs.Configuration.{is_in};
 ghost use Rattle.wf_semantics.specs.Run.{first_state, next_state};
 ghost use Rattle.wf_semantics.specs.Admission.{may_be_admitted, may_come};
@@ -120,7 +120,7 @@ impl CentralState {
         outer: &[Entry],
     ) -> Result<StepNotes, NoMemory>
         requires of { IsOf checked.now self.old }
-        requires few { self.old.taken < MAX_STEPS }
+        requires few { self.old.taken < max_steps }
         requires come { IsTrue (may_come checked.now (central_of checked.now self.old) outer.now) }
         ensures state { OnOk result (central_of checked.now self.new ≡ next_state checked.now (central_of checked.now self.old) outer.now) }
         ensures notes { IfOk result (λ notes. notes ≡ notes_of checked.now (central_of checked.now self.old) outer.now) }

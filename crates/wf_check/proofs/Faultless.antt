@@ -5,7 +5,7 @@ use Rattle.std.specs.List.{list_all, enumerate_from}
 use Rattle.std.specs.Option.{option_map}
 use Rattle.std.proofs.Math.Bool.{and-true}
 use Rattle.std.proofs.lemmas.Bool.{and_parts, leb-true, lt-ltb}
-use Rattle.wf_model.specs.declared.limits.TheConstants.{MAX_UNITS, MAX_EVENTS, MAX_VARS, MAX_ACTS, MAX_STATES, MAX_TRANSITIONS, MAX_NODES, MAX_DEPTH}
+use Rattle.wf_model.specs.Limits.{max_units, max_events, max_vars, max_acts, max_states, max_transitions, max_nodes, max_depth}
 use Rattle.wf_model.specs.declared.chart.Chart.{Chart}
 use Rattle.wf_model.specs.declared.chart.State.{State}
 use Rattle.wf_model.specs.declared.chart.Transition.{Transition}
@@ -47,7 +47,7 @@ size_bools true true true true true true false true small = refl
 size_bools true true true true true true false false small = refl
 
 small_parts : (t : Transition) → is_small_transition t ≡ (has_few_actions t && has_small_exprs t)
-small_parts t = by (all_of (λ guard. nat_le (nodes guard) MAX_NODES) t.guard) (has_few_actions t) (list_all is_small_action t.actions)
+small_parts t = by (all_of (λ guard. nat_le (nodes guard) max_nodes) t.guard) (has_few_actions t) (list_all is_small_action t.actions)
   where
     by : (g f s : Bool) → ((g && f) && s) ≡ (f && (g && s))
     by true true s = refl
@@ -61,8 +61,8 @@ small_all ts = all_same is_small_transition (λ t. has_few_actions t && has_smal
 module _ (c : Chart) where
   abbrev size_tests : Bool
   size_tests =
-      nat_le (length c.units) MAX_UNITS && (nat_le (length c.events) MAX_EVENTS && (nat_le (length c.vars) MAX_VARS
-      && (nat_le (length c.acts) MAX_ACTS && (nat_le (length c.states) MAX_STATES && (nat_le (length c.transitions) MAX_TRANSITIONS
+      nat_le (length c.units) max_units && (nat_le (length c.events) max_events && (nat_le (length c.vars) max_vars
+      && (nat_le (length c.acts) max_acts && (nat_le (length c.states) max_states && (nat_le (length c.transitions) max_transitions
       && (list_all has_few_actions c.transitions && (list_all has_few_outputs c.acts && (list_all has_small_exprs c.transitions && true))))))))
 
   by_sizes : is_none (size_fault c) ≡ size_tests
@@ -73,12 +73,12 @@ module _ (c : Chart) where
   unfolding is_small
   none-size =
       by_sizes
-      ∙ size_bools (nat_le (length c.units) MAX_UNITS) (nat_le (length c.events) MAX_EVENTS) (nat_le (length c.vars) MAX_VARS) (nat_le (length c.acts) MAX_ACTS)
-      (nat_le (length c.states) MAX_STATES) (nat_le (length c.transitions) MAX_TRANSITIONS) (list_all has_few_actions c.transitions)
+      ∙ size_bools (nat_le (length c.units) max_units) (nat_le (length c.events) max_events) (nat_le (length c.vars) max_vars) (nat_le (length c.acts) max_acts)
+      (nat_le (length c.states) max_states) (nat_le (length c.transitions) max_transitions) (list_all has_few_actions c.transitions)
       (list_all has_few_outputs c.acts) (list_all has_small_exprs c.transitions)
       ∙ ap (λ (b : Bool).
-      nat_le (length c.units) MAX_UNITS && nat_le (length c.events) MAX_EVENTS && nat_le (length c.vars) MAX_VARS
-      && nat_le (length c.acts) MAX_ACTS && nat_le (length c.states) MAX_STATES && nat_le (length c.transitions) MAX_TRANSITIONS
+      nat_le (length c.units) max_units && nat_le (length c.events) max_events && nat_le (length c.vars) max_vars
+      && nat_le (length c.acts) max_acts && nat_le (length c.states) max_states && nat_le (length c.transitions) max_transitions
       && list_all has_few_outputs c.acts && b) (sym (small_all c.transitions))
 
   -- what a chart within the limits has
@@ -95,12 +95,12 @@ module _ (c : Chart) where
       let p8 = and_parts _ _ p7.1 in
       let p9 = and_parts _ _ p8.1 in
       record {
-        units = leb-true (length c.units) MAX_UNITS p1.0;
-        events = leb-true (length c.events) MAX_EVENTS p2.0;
-        vars = leb-true (length c.vars) MAX_VARS p3.0;
-        acts = leb-true (length c.acts) MAX_ACTS p4.0;
-        states = leb-true (length c.states) MAX_STATES p5.0;
-        transitions = leb-true (length c.transitions) MAX_TRANSITIONS p6.0;
+        units = leb-true (length c.units) max_units p1.0;
+        events = leb-true (length c.events) max_events p2.0;
+        vars = leb-true (length c.vars) max_vars p3.0;
+        acts = leb-true (length c.acts) max_acts p4.0;
+        states = leb-true (length c.states) max_states p5.0;
+        transitions = leb-true (length c.transitions) max_transitions p6.0;
         few_actions = p7.0;
         small_exprs = p9.0;
       }
@@ -164,7 +164,7 @@ module _ (c : Chart) where
       go (x ∷ xs) = ap (λ (b : Bool). b && is_or x.kind) (lt-ltb 0 (length (x ∷ xs)) (omega arith))
 
   abbrev is_high : ℕ → State → Bool
-  is_high s state = nat_lt (length (ancestors c s)) MAX_DEPTH
+  is_high s state = nat_lt (length (ancestors c s)) max_depth
 
   abbrev is_fit : ℕ → State → Bool
   is_fit s state = suits state.kind (has_child c s)

@@ -15,7 +15,7 @@ use Rattle.wf_model.specs.declared.chart.Event.{Event}
 use Rattle.wf_model.specs.declared.chart.Variable.{Variable}
 use Rattle.wf_model.specs.declared.chart.Activity.{Activity}
 use Rattle.wf_model.specs.declared.chart.State.{State}
-use Rattle.wf_model.specs.declared.limits.TheConstants.{MAX_ACTIONS, MAX_DEPTH}
+use Rattle.wf_model.specs.Limits.{max_actions, max_depth}
 use Rattle.wf_model.specs.Tree.{ancestors}
 use Rattle.wf_model.specs.Seen.{val_sort}
 use Rattle.wf_model.specs.Sorts.{alike}
@@ -54,7 +54,7 @@ pub transition_fits : (c : Chart) (n : ℕ) → AreFew c → bad_transition c �
 transition_fits c n few e = omega (arith, few.transitions, failing_within (is_known_transition c) c.transitions n e)
 
 pub deep_fits : (c : Chart) (n : ℕ) → AreFew c → deep_state c ≡ Some n → n < 2 ^ 32
-deep_fits c n few e = omega (arith, few.states, numbered_within (λ s state. nat_lt (length (ancestors c s)) MAX_DEPTH) c.states n e)
+deep_fits c n few e = omega (arith, few.states, numbered_within (λ s state. nat_lt (length (ancestors c s)) max_depth) c.states n e)
 
 pub unfit_fits : (c : Chart) (n : ℕ) → AreFew c → unfit_state c ≡ Some n → n < 2 ^ 32
 unfit_fits c n few e = omega (arith, few.states, numbered_within (λ s state. suits state.kind (has_child c s)) c.states n e)
@@ -66,7 +66,7 @@ pub output_fits : (c : Chart) (n : ℕ) → AreFew c → double_output c ≡ Som
 output_fits c n few e = omega (arith, few.acts, failing_within are_outputs c.acts n e)
 
 pub action_fits : (c : Chart) (t : Transition) (n : ℕ) → IsTrue (has_few_actions t) → unlike_action c t ≡ Some n → n < 2 ^ 8
-action_fits c t n few e = omega (arith, leb-true (length t.actions) MAX_ACTIONS few, failing_within (is_sorted_action c) t.actions n e)
+action_fits c t n few e = omega (arith, leb-true (length t.actions) max_actions few, failing_within (is_sorted_action c) t.actions n e)
 
 -- all names are few
 pub name_fits : (c : Chart) (n : ℕ) → AreFew c → bad_name (names_of c) ≡ Some n → n < 2 ^ 32

@@ -1,7 +1,7 @@
 -- The shape: the root, the depth, and which states have children.
 use Rattle.std.specs.Prelude.{ℕ, nat_lt, [], ◌∷◌, length, Option}
 use Rattle.std.specs.Option.{option_map}
-use Rattle.wf_model.specs.declared.limits.TheConstants.{MAX_DEPTH}
+use Rattle.wf_model.specs.Limits.{max_depth}
 use Rattle.wf_model.specs.declared.chart.Chart.{Chart}
 use Rattle.wf_model.specs.declared.chart.Kind.{Kind}
 use Rattle.wf_model.specs.declared.chart.Kind.TheVariants.{Basic, Or, And}
@@ -17,7 +17,7 @@ state_id s = record { 0 = s }
 
 -- the first state that is too deep
 abbrev pub deep_state : Chart → Option ℕ
-deep_state c = first_failing_numbered (λ s state. nat_lt (length (ancestors c s)) MAX_DEPTH) c.states
+deep_state c = first_failing_numbered (λ s state. nat_lt (length (ancestors c s)) max_depth) c.states
 
 -- the first state whose kind doesn't suit its having children, or having none
 abbrev pub unfit_state : Chart → Option ℕ

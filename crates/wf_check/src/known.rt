@@ -4,6 +4,7 @@ ghost use Rattle.std.specs.List.{list_all};
 ghost use Rattle.wf_check.specs.Limited.{has_small_exprs};
 ghost use Rattle.wf_check.specs.Numbered as numbered;
 ghost use Rattle.wf_model.specs.Accepted as spec;
+ghost use Rattle.wf_model.specs.Limits.{max_nodes};
 
 use wf_expr::is_known_expr;
 use wf_model::limits::MAX_NODES;
@@ -31,7 +32,7 @@ fn is_event_or_none(chart: &Chart, event: Option<EventId>) -> bool
 }
 
 fn is_known_guard(chart: &Chart, guard: &Option<Expr>) -> bool
-    requires { IsTrue (spec.all_of (λ x. nat_le (spec.nodes x) MAX_NODES) guard.now) }
+    requires { IsTrue (spec.all_of (λ x. nat_le (spec.nodes x) max_nodes) guard.now) }
     ensures { result ≡ spec.all_of (spec.is_known_expr chart.now) guard.now }
 {
     match guard {

@@ -6,6 +6,7 @@ ghost use Rattle.wf_check.specs.Firsts.{first_from};
 ghost use Rattle.wf_check.specs.Sorted as sorted;
 ghost use Rattle.wf_model.specs.Sorts as sorts;
 ghost use Rattle.wf_model.specs.Accepted as spec;
+ghost use Rattle.wf_model.specs.Limits.{max_nodes};
 
 use crate::sorts::alike;
 use crate::{CheckFault, TypePlace};
@@ -14,7 +15,7 @@ use wf_model::limits::MAX_NODES;
 use wf_model::{Action, Chart, Expr, Sort, TransId, Transition, VarId};
 
 fn has_sort(chart: &Chart, e: &Expr, sort: Sort) -> bool
-    requires { spec.nodes e.now ≤ MAX_NODES }
+    requires { spec.nodes e.now ≤ max_nodes }
     ensures { result ≡ spec.has_sort chart.now e.now sort }
 {
     match type_of(e, chart) {
@@ -33,7 +34,7 @@ fn var_sort(chart: &Chart, x: VarId) -> Option<Sort>
 }
 
 fn is_sorted_guard(chart: &Chart, guard: &Option<Expr>) -> bool
-    requires { IsTrue (spec.all_of (λ x. nat_le (spec.nodes x) MAX_NODES) guard.now) }
+    requires { IsTrue (spec.all_of (λ x. nat_le (spec.nodes x) max_nodes) guard.now) }
     ensures { result ≡ spec.all_of (λ x. spec.has_sort chart.now x Sort.Bool) guard.now }
 {
     match guard {

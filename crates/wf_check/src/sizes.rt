@@ -3,6 +3,7 @@ ghost use Rattle.std.specs.Prelude.{◌≡◌, nat_le};
 ghost use Rattle.std.specs.List.{list_all};
 ghost use Rattle.wf_check.specs.Limited as spec;
 ghost use Rattle.wf_model.specs.Accepted as accepted;
+ghost use Rattle.wf_model.specs.Limits.{max_nodes};
 
 use crate::{CheckFault, What};
 use wf_expr::has_at_most;
@@ -66,7 +67,7 @@ fn have_few_outputs(chart: &Chart) -> bool
 }
 
 fn is_small_guard(guard: &Option<Expr>) -> bool
-    ensures { result ≡ accepted.all_of (λ x. nat_le (accepted.nodes x) MAX_NODES) guard.now }
+    ensures { result ≡ accepted.all_of (λ x. nat_le (accepted.nodes x) max_nodes) guard.now }
 {
     match guard {
         Some(guard) => has_at_most(guard, MAX_NODES),

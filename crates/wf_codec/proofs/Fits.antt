@@ -1,7 +1,7 @@
 -- What is in range fits its bytes.
 use Rattle.std.proofs.Common.{ℕ, ◌+◌, ◌≤◌, ◌<◌, ◌^◌, List, [], ◌∷◌, length, arith}
 use Rattle.std.specs.List.{AllByRecursion}
-use Rattle.wf_model.specs.declared.limits.TheConstants.{MAX_EVENTS, MAX_VARS, MAX_STATES, MAX_UNITS}
+use Rattle.wf_model.specs.Limits.{max_events, max_vars, max_states, max_units}
 use Rattle.wf_model.specs.declared.outer.Output.{Output}
 use Rattle.wf_model.specs.declared.outer.Outer.{Outer}
 use Rattle.wf_model.specs.declared.outer.Outer.TheVariants.{Happen, Complete}
@@ -19,21 +19,21 @@ pub ascending_few : {A : Type 0} (number : A → ℕ) (limit : ℕ) (xs : List A
 ascending_few number limit [] below ascend = omega arith
 ascending_few number limit (x ∷ xs) below ascend = omega (arith, first_leaves_room number limit x xs below ascend)
 
-variables_below : (ws : List Write) → AllByRecursion IsWrite ws → AllByRecursion (λ w. w.var.0 < MAX_VARS) ws
+variables_below : (ws : List Write) → AllByRecursion IsWrite ws → AllByRecursion (λ w. w.var.0 < max_vars) ws
 variables_below [] ranged = tt
 variables_below (w ∷ ws) ranged = (ranged.0.0, variables_below ws ranged.1)
 
 -- the lists that ascend are short
-pub flips_few : (u : Update) → IsInRange u → length u.flips ≤ MAX_STATES
-flips_few u ranged = ascending_few (λ s. s.0) MAX_STATES u.flips ranged.flips ranged.flips_ascend
+pub flips_few : (u : Update) → IsInRange u → length u.flips ≤ max_states
+flips_few u ranged = ascending_few (λ s. s.0) max_states u.flips ranged.flips ranged.flips_ascend
 
-pub writes_few : (u : Update) → IsInRange u → length u.writes ≤ MAX_VARS
-writes_few u ranged = ascending_few (λ w. w.var.0) MAX_VARS u.writes (variables_below u.writes ranged.writes) ranged.writes_ascend
+pub writes_few : (u : Update) → IsInRange u → length u.writes ≤ max_vars
+writes_few u ranged = ascending_few (λ w. w.var.0) max_vars u.writes (variables_below u.writes ranged.writes) ranged.writes_ascend
 
-pub raised_few : (u : Update) → IsInRange u → length u.raised ≤ MAX_EVENTS
-raised_few u ranged = ascending_few (λ e. e.0) MAX_EVENTS u.raised ranged.raised ranged.raised_ascend
+pub raised_few : (u : Update) → IsInRange u → length u.raised ≤ max_events
+raised_few u ranged = ascending_few (λ e. e.0) max_events u.raised ranged.raised ranged.raised_ascend
 
-outputs_fit : (outputs : List Output) → AllByRecursion (λ o. o.var.0 < MAX_VARS) outputs → AllByRecursion (λ o. o.var.0 < 2 ^ 16) outputs
+outputs_fit : (outputs : List Output) → AllByRecursion (λ o. o.var.0 < max_vars) outputs → AllByRecursion (λ o. o.var.0 < 2 ^ 16) outputs
 outputs_fit [] below = tt
 outputs_fit (o ∷ outputs) below = (omega (arith, below.0), outputs_fit outputs below.1)
 
@@ -49,10 +49,10 @@ all_outers_fit (outer ∷ outers) ranged = (outer_fits outer ranged.0, all_outer
 pub outers_fit : (u : Update) → IsInRange u → AllByRecursion (IsOuter any_numbers) u.outer
 outers_fit u ranged = all_outers_fit u.outer ranged.outer
 
-units_below : (us : List Update) → AllByRecursion IsInRange us → AllByRecursion (λ u. u.from.0 < MAX_UNITS) us
+units_below : (us : List Update) → AllByRecursion IsInRange us → AllByRecursion (λ u. u.from.0 < max_units) us
 units_below [] ranged = tt
 units_below (u ∷ us) ranged = (ranged.0.from, units_below us ranged.1)
 
 -- a turn has at most an update of each unit
-pub inputs_few : (us : List Update) → AllByRecursion IsInRange us → Ascend (λ u. u.from.0) us → length us ≤ MAX_UNITS
-inputs_few us ranged ascend = ascending_few (λ u. u.from.0) MAX_UNITS us (units_below us ranged) ascend
+pub inputs_few : (us : List Update) → AllByRecursion IsInRange us → Ascend (λ u. u.from.0) us → length us ≤ max_units
+inputs_few us ranged ascend = ascending_few (λ u. u.from.0) max_units us (units_below us ranged) ascend

@@ -2,7 +2,7 @@
 use Rattle.std.proofs.Common.{◌≡◌, ℕ, suc, ◌^◌, ◌<◌, ◌≤◌, Bool, true, false, cond, eqb, Option, Some, refl, sym, ap, subst, arith, inl, inr}
 use Rattle.std.proofs.lemmas.Bool.{eq-eqb, ne_eqb}
 use Rattle.std.proofs.lemmas.Bool.Decides.{eqb_tells}
-use Rattle.wf_model.specs.declared.limits.TheConstants.{MAX_EVENTS, MAX_VARS, MAX_ACTS, MAX_STATES, MAX_TRANSITIONS, MAX_ACTIONS}
+use Rattle.wf_model.specs.Limits.{max_events, max_vars, max_acts, max_states, max_transitions, max_actions}
 use Rattle.wf_model.specs.declared.ids.StateId.{StateId}
 use Rattle.wf_model.specs.declared.ids.EventId.{EventId}
 use Rattle.wf_model.specs.declared.ids.TransId.{TransId}
@@ -43,61 +43,61 @@ ascends_held number limit Held = record {
 }
 
 abbrev pub IsNextState : Option StateId → StateId → Type 0
-IsNextState before s = IsNext (λ x. x.0) MAX_STATES before s
+IsNextState before s = IsNext (λ x. x.0) max_states before s
 
-pub states_split : IsSplit IsNextState (λ s. s.0 < MAX_STATES) (λ x y. x.0 < y.0)
-states_split = ascends (λ (s : StateId). s.0) MAX_STATES
+pub states_split : IsSplit IsNextState (λ s. s.0 < max_states) (λ x y. x.0 < y.0)
+states_split = ascends (λ (s : StateId). s.0) max_states
 
 pub Reads-state : (before : Option StateId) → Reads (state_at before) state_spelling (IsNextState before)
 unfolding state_at
 Reads-state before =
     Reads-as state_spelling (IsNextState before)
-    (Reads-of (λ (s : StateId). s.0) (λ n. record { 0 = n }) (Reads-two (least_after (λ s. s.0) before) MAX_STATES (omega arith)) (λ n fit. refl))
+    (Reads-of (λ (s : StateId). s.0) (λ n. record { 0 = n }) (Reads-two (least_after (λ s. s.0) before) max_states (omega arith)) (λ n fit. refl))
     (λ s fit. refl) (λ s fit. fit.0) (λ s fit. (fit, refl))
 
 abbrev pub IsNextEvent : Option EventId → EventId → Type 0
-IsNextEvent before e = IsNext (λ x. x.0) MAX_EVENTS before e
+IsNextEvent before e = IsNext (λ x. x.0) max_events before e
 
-pub events_split : IsSplit IsNextEvent (λ e. e.0 < MAX_EVENTS) (λ x y. x.0 < y.0)
-events_split = ascends (λ (e : EventId). e.0) MAX_EVENTS
+pub events_split : IsSplit IsNextEvent (λ e. e.0 < max_events) (λ x y. x.0 < y.0)
+events_split = ascends (λ (e : EventId). e.0) max_events
 
 pub Reads-event : (before : Option EventId) → Reads (event_at chart_numbers before) event_spelling (IsNextEvent before)
 unfolding event_at
 Reads-event before =
     Reads-as event_spelling (IsNextEvent before)
-    (Reads-of (λ (e : EventId). e.0) (λ n. record { 0 = n }) (Reads-two (least_after (λ e. e.0) before) MAX_EVENTS (omega arith)) (λ n fit. refl))
+    (Reads-of (λ (e : EventId). e.0) (λ n. record { 0 = n }) (Reads-two (least_after (λ e. e.0) before) max_events (omega arith)) (λ n fit. refl))
     (λ e fit. refl) (λ e fit. fit.0) (λ e fit. (fit, refl))
 
 abbrev pub IsNextTrans : Option TransId → TransId → Type 0
-IsNextTrans before t = IsNext (λ x. x.0) MAX_TRANSITIONS before t
+IsNextTrans before t = IsNext (λ x. x.0) max_transitions before t
 
-pub transitions_split : IsSplit IsNextTrans (λ t. t.0 < MAX_TRANSITIONS) (λ x y. x.0 < y.0)
-transitions_split = ascends (λ (t : TransId). t.0) MAX_TRANSITIONS
+pub transitions_split : IsSplit IsNextTrans (λ t. t.0 < max_transitions) (λ x y. x.0 < y.0)
+transitions_split = ascends (λ (t : TransId). t.0) max_transitions
 
 pub Reads-trans : (before : Option TransId) → Reads (trans_at before) trans_spelling (IsNextTrans before)
 unfolding trans_at
 Reads-trans before =
     Reads-as trans_spelling (IsNextTrans before)
-    (Reads-of (λ (t : TransId). t.0) (λ n. record { 0 = n }) (Reads-two (least_after (λ t. t.0) before) MAX_TRANSITIONS (omega arith)) (λ n fit. refl))
+    (Reads-of (λ (t : TransId). t.0) (λ n. record { 0 = n }) (Reads-two (least_after (λ t. t.0) before) max_transitions (omega arith)) (λ n fit. refl))
     (λ t fit. refl) (λ t fit. fit.0) (λ t fit. (fit, refl))
 
 -- ---- writes
 
 abbrev pub IsHeldWrite : Write → Type 0
-IsHeldWrite w = (w.trans.0 < MAX_TRANSITIONS) × IsHeldValue w.val
+IsHeldWrite w = (w.trans.0 < max_transitions) × IsHeldValue w.val
 
 abbrev pub IsNextWrite : Option Write → Write → Type 0
-IsNextWrite before w = IsNext (λ x. x.var.0) MAX_VARS before w × IsHeldWrite w
+IsNextWrite before w = IsNext (λ x. x.var.0) max_vars before w × IsHeldWrite w
 
-pub writes_split : IsSplit IsNextWrite (λ w. (w.var.0 < MAX_VARS) × IsHeldWrite w) (λ w x. w.var.0 < x.var.0)
-writes_split = ascends_held (λ w. w.var.0) MAX_VARS IsHeldWrite
+pub writes_split : IsSplit IsNextWrite (λ w. (w.var.0 < max_vars) × IsHeldWrite w) (λ w x. w.var.0 < x.var.0)
+writes_split = ascends_held (λ w. w.var.0) max_vars IsHeldWrite
 
 pub Reads-write : (before : Option Write) → Reads (write_at chart_numbers before) write_spelling (IsNextWrite before)
 unfolding write_at
 Reads-write before =
     Reads-as write_spelling (IsNextWrite before)
-    (Reads-then (λ (w : Write). w.var.0) (Reads-two (least_after (λ w. w.var.0) before) MAX_VARS (omega arith))
-    (λ var var_fits. Reads-then (λ (w : Write). w.trans.0) (Reads-two 0 MAX_TRANSITIONS (omega arith))
+    (Reads-then (λ (w : Write). w.var.0) (Reads-two (least_after (λ w. w.var.0) before) max_vars (omega arith))
+    (λ var var_fits. Reads-then (λ (w : Write). w.trans.0) (Reads-two 0 max_transitions (omega arith))
     (λ trans trans_fits. Reads-of (λ (w : Write). w.val) (λ val. record { var = record { 0 = var }; trans = record { 0 = trans }; val = val }) Reads-value (λ val fit. refl))
     (λ trans w fit fits. ap (λ (x : Write). x.trans.0) fits.1))
     (λ var w fit fits. ap (λ (x : Write). x.var.0) fits.1.1))
@@ -106,15 +106,15 @@ Reads-write before =
 -- ---- starts
 
 abbrev pub IsNextStart : Option StartAt → StartAt → Type 0
-IsNextStart before s = (s.act.0 < MAX_ACTS) × (IsWithin (least_trans before) MAX_TRANSITIONS s.trans.0 × IsWithin (least_place before s.trans.0) MAX_ACTIONS s.place)
+IsNextStart before s = (s.act.0 < max_acts) × (IsWithin (least_trans before) max_transitions s.trans.0 × IsWithin (least_place before s.trans.0) max_actions s.place)
 
 pub Reads-start : (before : Option StartAt) → Reads (start_at chart_numbers before) start_spelling (IsNextStart before)
 unfolding start_at
 Reads-start before =
     Reads-as start_spelling (IsNextStart before)
-    (Reads-then (λ (s : StartAt). s.act.0) (Reads-two 0 MAX_ACTS (omega arith))
-    (λ act act_fits. Reads-then (λ (s : StartAt). s.trans.0) (Reads-two (least_trans before) MAX_TRANSITIONS (omega arith))
-    (λ trans trans_fits. Reads-of (λ (s : StartAt). s.place) (λ place. record { act = record { 0 = act }; trans = record { 0 = trans }; place = place }) (Reads-byte (least_place before trans) MAX_ACTIONS) (λ place fit. refl))
+    (Reads-then (λ (s : StartAt). s.act.0) (Reads-two 0 max_acts (omega arith))
+    (λ act act_fits. Reads-then (λ (s : StartAt). s.trans.0) (Reads-two (least_trans before) max_transitions (omega arith))
+    (λ trans trans_fits. Reads-of (λ (s : StartAt). s.place) (λ place. record { act = record { 0 = act }; trans = record { 0 = trans }; place = place }) (Reads-byte (least_place before trans) max_actions) (λ place fit. refl))
     (λ trans s fit fits. ap (λ (x : StartAt). x.trans.0) fits.1))
     (λ act s fit fits. ap (λ (x : StartAt). x.act.0) fits.1.1))
     (λ s fit. refl) (λ s fit. (fit.0.1, (fit.1.0, fit.1.1.0))) (λ s fit. ((omega arith, fit.0), (fit.1.0, (fit.1.1, refl))))

@@ -2,7 +2,7 @@
 use Rattle.std.proofs.Common.{◌≡◌, ℕ, zero, suc, ◌+◌, ◌^◌, ◌<◌, ◌≤◌, cond, eqb, List, [], ◌∷◌, ◌++◌, length, Option, None, Result, refl, sym, ap, subst, arith}
 use Rattle.std.specs.List.{flat_map}
 use Rattle.std.specs.Int.{w32}
-use Rattle.wf_model.specs.declared.limits.TheConstants.{MAX_OUTPUTS}
+use Rattle.wf_model.specs.Limits.{max_outputs}
 use Rattle.wf_model.specs.declared.outer.Output.{Output}
 use Rattle.wf_model.specs.declared.outer.Outer.{Outer}
 use Rattle.wf_model.specs.declared.outer.Outer.TheVariants.{Happen, Complete}
@@ -65,7 +65,7 @@ Reads-happening numbers small =
 -- the parts of a completion
 abbrev AreParts : Numbers → Outer → Type 0
 AreParts numbers o =
-    IsWithin 1 (2 ^ 32) (item_of o) × (IsWithin 0 numbers.acts (number_of o) × (IsWithin 0 (MAX_OUTPUTS + 1) (length (outputs_of o))
+    IsWithin 1 (2 ^ 32) (item_of o) × (IsWithin 0 numbers.acts (number_of o) × (IsWithin 0 (max_outputs + 1) (length (outputs_of o))
     × (((length (outputs_of o) ≡ length (outputs_of o)) × EachFits (λ b. IsOutput numbers) None (outputs_of o)) × (o ≡ Complete (item_of o) (record { 0 = number_of o }) (outputs_of o)))))
 
 completion_is : (numbers : Numbers) (o : Outer) → AreParts numbers o → IsOfKind numbers COMPLETE o
@@ -87,7 +87,7 @@ Reads-completion numbers small =
     Reads-as behind_kind (IsOfKind numbers COMPLETE)
     (Reads-then item_of (Reads-number w32 (2 ^ 32) wide32 1 (2 ^ 32) (omega arith))
     (λ item item_fits. Reads-then number_of (Reads-two 0 numbers.acts small.1)
-    (λ act act_fits. Reads-then (λ (o : Outer). length (outputs_of o)) (Reads-byte 0 (MAX_OUTPUTS + 1))
+    (λ act act_fits. Reads-then (λ (o : Outer). length (outputs_of o)) (Reads-byte 0 (max_outputs + 1))
     (λ n n_fits. Reads-of outputs_of (λ outputs. Complete item (record { 0 = act }) outputs)
     (Reads-items (Reads-output numbers small.2) n None) (λ outputs fit. refl))
     (λ n o fit fits. fits.0.0))

@@ -5,7 +5,7 @@ use Rattle.std.specs.List.{flat_map}
 use Rattle.std.specs.Int.{w32}
 use Rattle.std.proofs.lemmas.Bool.{eqb-true}
 use Rattle.std.proofs.lemmas.List.{append-nil}
-use Rattle.wf_model.specs.declared.limits.TheConstants.{MAX_UNITS, MAX_NAME}
+use Rattle.wf_model.specs.Limits.{max_units, max_name}
 use Rattle.wf_model.specs.declared.outer.Outer.{Outer}
 use Rattle.wf_model.specs.declared.outer.Outer.TheVariants.{Happen}
 use Rattle.wf_model.specs.declared.update.Update.{Update}
@@ -31,7 +31,7 @@ Reads-name : Reads head_name_at named IsHeadName
 unfolding head_name_at
 Reads-name =
     Reads-as named IsHeadName
-    (Reads-then length (Reads-byte 1 (MAX_NAME + 1)) (λ n fit. Reads-items (λ before. Reads-that is_head_char) n None) (λ n cs fit fits. fits.0))
+    (Reads-then length (Reads-byte 1 (max_name + 1)) (λ n fit. Reads-items (λ before. Reads-that is_head_char) n None) (λ n cs fit fits. fits.0))
     (λ cs fit. ap (λ (s : List ℕ). length cs ∷ s) (each_one_byte cs))
     (λ cs fit. (fit.0.0, omega (arith, fit.0.1), all_pass is_head_char None cs fit.1.1))
     (λ cs fit. ((fit.0, omega (arith, fit.1)), (refl, each_passes is_head_char None cs fit.2)))
@@ -139,7 +139,7 @@ updates_split = record {
   next = λ u v is over. ((omega (arith, over), is.0.from), is);
 }
 
-few_updates : (u : Update) (us : List Update) → EachFits IsNextUpdate (Some u) us → u.from.0 < MAX_UNITS → u.from.0 + length us < MAX_UNITS
+few_updates : (u : Update) (us : List Update) → EachFits IsNextUpdate (Some u) us → u.from.0 < max_units → u.from.0 + length us < max_units
 few_updates u [] fits below = omega arith
 few_updates u (v ∷ us) fits below = omega (arith, fits.0.0.0, few_updates v us fits.1 fits.0.0.1)
 

@@ -8,7 +8,7 @@ use Rattle.std.proofs.lemmas.Int.{ints, of_z-to_z, to_z-of_z}
 use Rattle.std.proofs.Math.Facts.{sfits_to_z}
 use Rattle.std.proofs.lemmas.Bool.{and_parts, and_from}
 use Rattle.std.proofs.lemmas.List.Concat.{flat_map-cons}
-use Rattle.wf_model.specs.declared.limits.TheConstants.{MAX_TEXT}
+use Rattle.wf_model.specs.Limits.{max_text}
 use Rattle.wf_model.specs.Txt.{is_text_char}
 use Rattle.wf_model.specs.declared.value.Val.{Val}
 use Rattle.wf_model.specs.declared.value.Val.TheVariants as v
@@ -116,7 +116,7 @@ Reads-int =
     int_fits
 
 text_fits : (x : Val) → IsOfSort TEXT x
-    → IsWithin 0 (MAX_TEXT + 1) (length (chars_of x)) × (((length (chars_of x) ≡ length (chars_of x)) × EachFits (λ b c. IsTrue (is_text_char c)) None (chars_of x)) × (x ≡ v.Text (chars_of x)))
+    → IsWithin 0 (max_text + 1) (length (chars_of x)) × (((length (chars_of x) ≡ length (chars_of x)) × EachFits (λ b c. IsTrue (is_text_char c)) None (chars_of x)) × (x ≡ v.Text (chars_of x)))
 text_fits (v.Bool b) h = absurd (omega arith)
 text_fits (v.Int z) h = absurd (omega arith)
 text_fits (v.Text cs) h = ((omega arith, omega (arith, h.1.0)), ((refl, each_passes is_text_char None cs h.1.1), refl))
@@ -125,7 +125,7 @@ Reads-text : Reads text_at behind_sort (IsOfSort TEXT)
 unfolding text_at
 Reads-text =
     Reads-as behind_sort (IsOfSort TEXT)
-    (Reads-then (λ x. length (chars_of x)) (Reads-byte 0 (MAX_TEXT + 1))
+    (Reads-then (λ x. length (chars_of x)) (Reads-byte 0 (max_text + 1))
     (λ n fit. Reads-of chars_of v.Text (Reads-items (λ before. Reads-that is_text_char) n None) (λ cs fits. refl))
     (λ n x fit fits. fits.0.0))
     (λ x fit. ap (λ (cs : List ℕ). length (chars_of x) ∷ cs) (each_one_byte (chars_of x)) ∙ subst (λ (y : Val). length (chars_of y) ∷ chars_of y ≡ behind_sort y) (sym fit.1.1) refl)

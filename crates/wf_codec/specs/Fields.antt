@@ -1,7 +1,7 @@
 -- Reading the fields of an update.
 use Rattle.std.specs.Prelude.{ℕ, suc, ◌+◌, ◌-◌, ◌^◌, ◌==◌, List, [], ◌∷◌, length, Option, Some, None, Result, Ok, Err, if◌then◌else◌}
 use Rattle.std.specs.Int.{w16, w32, w64, cast_signed}
-use Rattle.wf_model.specs.declared.limits.TheConstants.{MAX_UNITS, MAX_STATES, MAX_TRANSITIONS, MAX_ACTIONS, MAX_OUTPUTS, MAX_TEXT, MAX_STEPS, MAX_FIRED, MAX_STARTS, MAX_SEALED}
+use Rattle.wf_model.specs.Limits.{max_units, max_states, max_transitions, max_actions, max_outputs, max_text, max_steps, max_fired, max_starts, max_sealed}
 use Rattle.wf_model.specs.Txt.{is_text_char}
 use Rattle.wf_model.specs.declared.ids.StateId.{StateId}
 use Rattle.wf_model.specs.declared.ids.EventId.{EventId}
@@ -40,7 +40,7 @@ int_at bytes = do
 -- a text behind its sort
 unfoldable pub text_at : List ℕ → Result (Val × List ℕ) Misfit
 text_at bytes = do
-  len ← byte_in 0 (MAX_TEXT + 1) bytes
+  len ← byte_in 0 (max_text + 1) bytes
   cs ← bytes_that is_text_char len.0 len.1
   Ok (v.Text cs.0, cs.1)
 
@@ -55,7 +55,7 @@ value_at bytes = do
 -- a state over the one before it
 unfoldable pub state_at : Option StateId → List ℕ → Result (StateId × List ℕ) Misfit
 state_at before bytes = do
-  n ← number_in w16 (least_after (λ s. s.0) before) MAX_STATES bytes
+  n ← number_in w16 (least_after (λ s. s.0) before) max_states bytes
   Ok (record { 0 = n.0 }, n.1)
 
 -- an event over the one before it
@@ -67,14 +67,14 @@ event_at numbers before bytes = do
 -- a transition over the one before it
 unfoldable pub trans_at : Option TransId → List ℕ → Result (TransId × List ℕ) Misfit
 trans_at before bytes = do
-  n ← number_in w16 (least_after (λ t. t.0) before) MAX_TRANSITIONS bytes
+  n ← number_in w16 (least_after (λ t. t.0) before) max_transitions bytes
   Ok (record { 0 = n.0 }, n.1)
 
 -- a write of a variable over that of the write before it
 unfoldable pub write_at : Numbers → Option Write → List ℕ → Result (Write × List ℕ) Misfit
 write_at numbers before bytes = do
   var ← number_in w16 (least_after (λ w. w.var.0) before) numbers.vars bytes
-  trans ← number_in w16 0 MAX_TRANSITIONS var.1
+  trans ← number_in w16 0 max_transitions var.1
   val ← value_at trans.1
   Ok (record { var = record { 0 = var.0 }; trans = record { 0 = trans.0 }; val = val.0 }, val.1)
 
@@ -92,8 +92,8 @@ least_place (Some s) t = if s.trans.0 == t then suc s.place else 0
 unfoldable pub start_at : Numbers → Option StartAt → List ℕ → Result (StartAt × List ℕ) Misfit
 start_at numbers before bytes = do
   act ← number_in w16 0 numbers.acts bytes
-  trans ← number_in w16 (least_trans before) MAX_TRANSITIONS act.1
-  place ← byte_in (least_place before trans.0) MAX_ACTIONS trans.1
+  trans ← number_in w16 (least_trans before) max_transitions act.1
+  place ← byte_in (least_place before trans.0) max_actions trans.1
   Ok (record { act = record { 0 = act.0 }; trans = record { 0 = trans.0 }; place = place.0 }, place.1)
 
 -- an output of any variable
@@ -114,7 +114,7 @@ unfoldable pub completion_at : Numbers → List ℕ → Result (Outer × List �
 completion_at numbers bytes = do
   item ← number_in w32 1 (2 ^ 32) bytes
   act ← number_in w16 0 numbers.acts item.1
-  count ← byte_in 0 (MAX_OUTPUTS + 1) act.1
+  count ← byte_in 0 (max_outputs + 1) act.1
   outputs ← items_at (output_at numbers) count.0 None count.1
   Ok (Complete item.0 (record { 0 = act.0 }) outputs.0, outputs.1)
 
@@ -134,14 +134,14 @@ list_at item bound bytes = do
 unfoldable pub update_at : Numbers → Option Update → List ℕ → Result (Update × List ℕ) Misfit
 update_at numbers before bytes = do
   tag ← byte_in TAG (TAG + 1) bytes
-  from ← byte_in (least_after (λ u. u.from.0) before) MAX_UNITS tag.1
-  step ← number_in w32 1 (MAX_STEPS + 2) from.1
-  flips ← list_at state_at (MAX_STATES + 1) step.1
+  from ← byte_in (least_after (λ u. u.from.0) before) max_units tag.1
+  step ← number_in w32 1 (max_steps + 2) from.1
+  flips ← list_at state_at (max_states + 1) step.1
   writes ← list_at (write_at numbers) (2 ^ 16) flips.1
   raised ← list_at (event_at numbers) (2 ^ 16) writes.1
-  starts ← list_at (start_at numbers) (MAX_STARTS + 1) raised.1
-  fired ← list_at trans_at (MAX_FIRED + 1) starts.1
-  outer ← list_at (outer_at numbers) (MAX_SEALED + 1) fired.1
+  starts ← list_at (start_at numbers) (max_starts + 1) raised.1
+  fired ← list_at trans_at (max_fired + 1) starts.1
+  outer ← list_at (outer_at numbers) (max_sealed + 1) fired.1
   Ok (record { from = record { 0 = from.0 }; step = step.0; flips = flips.0; writes = writes.0; raised = raised.0; starts = starts.0; fired = fired.0; outer = outer.0 }, outer.1)
 
 -- what reading an update from the front of bytes of this length tells: the update and its length, or the fault and its place

@@ -2,7 +2,7 @@
 use Rattle.std.specs.Prelude.{ℕ, suc, ◌≡◌, ◌+◌, ◌^◌, ◌<◌, ◌≤◌, ◌==◌, ◌||◌, Bool, IsTrue, List, [], ◌∷◌, ◌++◌, length, Option, Some, None, Result, Ok, Err, if◌then◌else◌}
 use Rattle.std.specs.List.{flat_map, list_all, AllByRecursion}
 use Rattle.std.specs.Int.{w16, w32}
-use Rattle.wf_model.specs.declared.limits.TheConstants.{MAX_NAME}
+use Rattle.wf_model.specs.Limits.{max_name}
 use Rattle.wf_model.specs.Names.{is_word_char}
 use Rattle.wf_codec.specs.declared.fault.Misfit.{Misfit}
 use Rattle.wf_codec.specs.declared.fault.Misfit.TheVariants.{Short, Bad}
@@ -30,7 +30,7 @@ record_spelling (Turn step inputs sealed) = TURN ∷ four step ++ (length inputs
 
 -- 1 to 32 characters that a head may have
 abbrev pub IsHeadName : List ℕ → Type 0
-IsHeadName cs = (1 ≤ length cs) × (length cs ≤ MAX_NAME) × IsTrue (list_all is_head_char cs)
+IsHeadName cs = (1 ≤ length cs) × (length cs ≤ max_name) × IsTrue (list_all is_head_char cs)
 
 -- each field is in its range: a head has version 1, and a turn the updates of different units, in their order
 abbrev pub IsRecordInRange : JournalRecord → Type 0
@@ -51,7 +51,7 @@ IsRecord r = IsRecordInRange r × IsHeldRecord r
 -- a name behind its length
 unfoldable pub head_name_at : List ℕ → Result (List ℕ × List ℕ) Misfit
 head_name_at bytes = do
-  len ← byte_in 1 (MAX_NAME + 1) bytes
+  len ← byte_in 1 (max_name + 1) bytes
   bytes_that is_head_char len.0 len.1
 
 -- a head behind its tag

@@ -1,10 +1,11 @@
 //! How many bytes a spelling takes, so that their room is reserved at once.
 ghost use Rattle.std.specs.Prelude.{◌≡◌, ◌*◌, ◌≤◌, length};
 ghost use Rattle.std.specs.List.{flat_map, AllByRecursion};
-ghost use Rattle.wf_model.specs.declared.limits.TheConstants.{MAX_SEALED, MAX_VARS};
+ghost use Rattle.wf_model.specs.Limits.{max_sealed, max_vars};
 ghost use Rattle.wf_codec.specs.Spelling.{value_spelling, output_spelling, outer_spelling, write_spelling, spelling_of};
 ghost use Rattle.wf_codec.specs.Ranges.{any_numbers, IsOuter, IsInRange};
 ghost use Rattle.wf_codec.specs.Records.{record_spelling, IsRecordInRange};
+ghost use Rattle.wf_model.specs.Limits.{max_outputs, max_units};
 
 use crate::record::JournalRecord;
 use wf_model::limits::{MAX_OUTPUTS, MAX_TEXT, MAX_UNITS};
@@ -52,7 +53,7 @@ fn value_room(value: &Val) -> usize
 
 /// Bytes of the outputs of a completion.
 fn outputs_room(outputs: &[Output]) -> usize
-    requires { length outputs.now ≤ MAX_OUTPUTS }
+    requires { length outputs.now ≤ max_outputs }
     ensures exact { result ≡ length (flat_map output_spelling outputs.now) }
     ensures bound { result ≤ OUTPUT * length outputs.now }
 {
@@ -78,7 +79,7 @@ fn outer_room(outer: &Outer) -> usize
 
 /// Bytes of the outers of an update.
 fn outers_room(outers: &[Outer]) -> usize
-    requires few { length outers.now ≤ MAX_SEALED }
+    requires few { length outers.now ≤ max_sealed }
     requires each { AllByRecursion (IsOuter any_numbers) outers.now }
     ensures exact { result ≡ length (flat_map outer_spelling outers.now) }
     ensures bound { result ≤ OUTER * length outers.now }
@@ -92,7 +93,7 @@ fn outers_room(outers: &[Outer]) -> usize
 
 /// Bytes of the writes of an update.
 fn writes_room(writes: &[Write]) -> usize
-    requires { length writes.now ≤ MAX_VARS }
+    requires { length writes.now ≤ max_vars }
     ensures exact { result ≡ length (flat_map write_spelling writes.now) }
     ensures bound { result ≤ WRITE * length writes.now }
 {
@@ -119,7 +120,7 @@ pub fn update_room(update: &Update) -> usize
 
 /// Bytes of the updates of a turn.
 fn updates_room(updates: &[Update]) -> usize
-    requires few { length updates.now ≤ MAX_UNITS }
+    requires few { length updates.now ≤ max_units }
     requires each { AllByRecursion IsInRange updates.now }
     ensures exact { result ≡ length (flat_map spelling_of updates.now) }
     ensures bound { result ≤ MAX_SPELLING * length updates.now }

@@ -1,7 +1,7 @@
 //! What each part of an update is spelled as.
 ghost use Rattle.std.specs.Prelude.{◌≡◌, ◌++◌, ◌∷◌, [], ◌<◌, ◌^◌, OnOk, length};
 ghost use Rattle.std.specs.List.{flat_map, AllByRecursion};
-ghost use Rattle.wf_model.specs.declared.limits.TheConstants.{MAX_EVENTS, MAX_STATES, MAX_TRANSITIONS};
+ghost use Rattle.wf_model.specs.Limits.{max_events, max_states, max_transitions};
 ghost use Rattle.wf_codec.specs.Spelling.{two, four, state_spelling, event_spelling, trans_spelling, value_spelling, write_spelling, start_spelling, output_spelling, outer_spelling, spelling_of};
 ghost use Rattle.wf_codec.specs.Parts.{changes_spelling, rest_spelling};
 ghost use Rattle.wf_codec.specs.Ranges.{any_numbers, IsWrite, IsStart, IsOuter, IsInRange};
@@ -18,7 +18,7 @@ use wf_model::{
 impl Spell for StateId {
     ghost spelling = { state_spelling };
 
-    ghost fits = { λ s. s.0 < MAX_STATES };
+    ghost fits = { λ s. s.0 < max_states };
 
     fn spell(&self, bytes: &mut Vec<u8>) -> Result<(), NoMemory> {
         spell_two(self.0, bytes)
@@ -28,7 +28,7 @@ impl Spell for StateId {
 impl Spell for EventId {
     ghost spelling = { event_spelling };
 
-    ghost fits = { λ e. e.0 < MAX_EVENTS };
+    ghost fits = { λ e. e.0 < max_events };
 
     fn spell(&self, bytes: &mut Vec<u8>) -> Result<(), NoMemory> {
         spell_two(self.0, bytes)
@@ -38,7 +38,7 @@ impl Spell for EventId {
 impl Spell for TransId {
     ghost spelling = { trans_spelling };
 
-    ghost fits = { λ t. t.0 < MAX_TRANSITIONS };
+    ghost fits = { λ t. t.0 < max_transitions };
 
     fn spell(&self, bytes: &mut Vec<u8>) -> Result<(), NoMemory> {
         spell_two(self.0, bytes)

@@ -1,7 +1,7 @@
 //! What a record is spelled as.
 ghost use Rattle.std.specs.Prelude.{◌≡◌, ◌++◌, ◌∷◌, [], ◌<◌, ◌≤◌, ◌^◌, OnOk, length};
 ghost use Rattle.std.specs.List.{flat_map, AllByRecursion};
-ghost use Rattle.wf_model.specs.declared.limits.TheConstants.{MAX_NAME, MAX_UNITS};
+ghost use Rattle.wf_model.specs.Limits.{max_name, max_units};
 ghost use Rattle.wf_codec.specs.Spelling.{two, four, eight, outer_spelling, spelling_of};
 ghost use Rattle.wf_codec.specs.Ranges.{any_numbers, IsOuter, IsInRange};
 ghost use Rattle.wf_codec.specs.Records.{named, record_spelling, IsRecordInRange};
@@ -13,7 +13,7 @@ use wf_model::{Name, NoMemory, Outer, Update};
 
 /// Adds a name behind its length.
 fn spell_name(name: &Name, bytes: &mut Vec<u8>) -> Result<(), NoMemory>
-    requires { length name.now ≤ MAX_NAME }
+    requires { length name.now ≤ max_name }
     ensures { OnOk result (bytes.new.items ≡ bytes.old.items ++ named name.now) }
 {
     let name = name.as_bytes();
@@ -24,8 +24,8 @@ fn spell_name(name: &Name, bytes: &mut Vec<u8>) -> Result<(), NoMemory>
 
 /// Adds a head.
 fn spell_head(version: u8, chart: &Name, unit: &Name, bytes: &mut Vec<u8>) -> Result<(), NoMemory>
-    requires chart { length chart.now ≤ MAX_NAME }
-    requires unit { length unit.now ≤ MAX_NAME }
+    requires chart { length chart.now ≤ max_name }
+    requires unit { length unit.now ≤ max_name }
     ensures { OnOk result (bytes.new.items ≡ bytes.old.items ++ HEAD ∷ version ∷ named chart.now ++ named unit.now) }
 {
     bytes.extend_from_slice(&[HEAD, version])?;
@@ -50,7 +50,7 @@ fn spell_turn(
     sealed: u32,
     bytes: &mut Vec<u8>,
 ) -> Result<(), NoMemory>
-    requires count { length inputs.now ≤ MAX_UNITS }
+    requires count { length inputs.now ≤ max_units }
     requires each { AllByRecursion IsInRange inputs.now }
     requires sealed { sealed < 2 ^ 16 }
     ensures { OnOk result (bytes.new.items ≡ bytes.old.items ++ TURN ∷ four step ++ (length inputs.now ∷ flat_map spelling_of inputs.now ++ two sealed)) }

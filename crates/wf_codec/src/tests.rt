@@ -1,6 +1,6 @@
 //! Bytes of updates and records, written in hexadecimal digits; blanks between them say nothing.
 ghost use Rattle.std.specs.Prelude.{◌≡◌, ◌+◌, ◌<◌, ◌≤◌, ◌∷◌, [], IfOk};
-ghost use Rattle.wf_model.specs.declared.limits.TheConstants.{MAX_STEPS, MAX_UNITS};
+ghost use Rattle.wf_model.specs.Limits.{max_steps, max_units};
 ghost use Rattle.wf_codec.specs.Ranges.{IsInRange};
 
 use crate::{CodecFault, RecordFault, decode, decode_record};
@@ -61,8 +61,8 @@ fn is_record(rt: &HostRuntime, body: &[u8]) -> Result<bool, RecordFault> {
 
 /// An update that changes nothing.
 fn empty(alloc: Global, from: u32, step: u32) -> Update
-    requires from { from < MAX_UNITS }
-    requires step { (1 ≤ step) × (step ≤ MAX_STEPS + 1) }
+    requires from { from < max_units }
+    requires step { (1 ≤ step) × (step ≤ max_steps + 1) }
     ensures ranged { IsInRange result }
     ensures nothing { result ≡ record { from = record { 0 = from }; step = step; flips = []; writes = []; raised = []; starts = []; fired = []; outer = [] } }
 {

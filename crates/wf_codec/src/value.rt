@@ -3,6 +3,7 @@ ghost use Rattle.std.specs.Prelude.{◌≤◌};
 ghost use Rattle.wf_model.specs.Txt.{is_text_char as is_text};
 ghost use Rattle.wf_codec.specs.Reading.{Reads, byte_that, bytes_that};
 ghost use Rattle.wf_codec.specs.Fields.{bool_at, int_at, text_at, value_at};
+ghost use Rattle.wf_model.specs.Limits.{max_text};
 
 use crate::fault::{FieldFault, Misfit};
 use crate::field::{bad, u8_in, u64_of};
@@ -37,7 +38,7 @@ fn char_of(bytes: &[u8]) -> Result<(u8, &[u8]), FieldFault>
 
 /// So many text characters, at most 64. Linear in them.
 fn chars_of(count: u8, bytes: &[u8]) -> Result<(Txt, &[u8]), FieldFault>
-    requires { count ≤ MAX_TEXT }
+    requires { count ≤ max_text }
     ensures { Reads result (bytes_that is_text count bytes.now) }
 {
     let mut text = Txt::new();

@@ -1,7 +1,7 @@
 -- What a rule reads from, and the steps that every rule is made of.
 use Rattle.std.specs.Prelude.{◌≡◌, ◌≢◌, ℕ, ◌+◌, ◌<◌, ◌≤◌, Bool, false, if◌then◌else◌, nat_le, nat_lt, List, [], ◌∷◌, ◌++◌, length, take as take_first, drop, slice_range, Option, Some, None, Result, Ok, Err}
 use lib.Chars.{codes}
-use Rattle.wf_model.specs.declared.limits.TheConstants.{MAX_NAME, MAX_NODES, MAX_INT}
+use Rattle.wf_model.specs.Limits.{max_name, max_nodes, max_int}
 use Rattle.wf_model.specs.declared.ids.UnitId.{UnitId}
 use Rattle.wf_model.specs.declared.ids.EventId.{EventId}
 use Rattle.wf_model.specs.declared.ids.VarId.{VarId}
@@ -157,9 +157,9 @@ expect wanted = λ i. if sees wanted i then Ok (tt, next i) else syntax i
 
 -- ---- names
 
--- the next token has to be a name of at most MAX_NAME bytes
+-- the next token has to be a name of at most max_name bytes
 unfoldable pub name_ahead : Parser (Unit {0})
-name_ahead = λ i. if sees pieces.Name i then (if nat_le (length (spelling i)) MAX_NAME then Ok (tt, i) else oversize i) else syntax i
+name_ahead = λ i. if sees pieces.Name i then (if nat_le (length (spelling i)) max_name then Ok (tt, i) else oversize i) else syntax i
 
 -- any name
 unfoldable pub name : Parser (List ℕ)
@@ -229,11 +229,11 @@ int_up_to most = λ i. if sees pieces.Int i then int_by (number_up_to most (spel
 
 -- an Int
 unfoldable pub int : Parser ℕ
-int = int_up_to MAX_INT
+int = int_up_to max_int
 
 -- the Int behind the `-` of a literal
 unfoldable pub negated_int : Parser ℕ
-negated_int = int_up_to (MAX_INT + 1)
+negated_int = int_up_to (max_int + 1)
 
 abbrev pub text_by : Option (List ℕ) → Parser (List ℕ)
 text_by (Some t) = take >> pure t
@@ -247,9 +247,9 @@ text = λ i. if sees pieces.Text i then text_by (short_text (spelling i)) i else
 unfoldable pub without_nodes : Input → Input
 without_nodes i = record i { nodes = 0 }
 
--- the next token makes a node, of which an expression has at most MAX_NODES
+-- the next token makes a node, of which an expression has at most max_nodes
 unfoldable pub node : Parser (Unit {0})
-node = λ i. if nat_lt i.nodes MAX_NODES then Ok (tt, record i { nodes = i.nodes + 1 }) else oversize i
+node = λ i. if nat_lt i.nodes max_nodes then Ok (tt, record i { nodes = i.nodes + 1 }) else oversize i
 
 -- ---- declarations
 

@@ -1,7 +1,7 @@
 -- What an Int or a Text holds.
 use Rattle.std.specs.Prelude.{ℕ, ◌+◌, ◌-◌, ◌*◌, nat_le, if◌then◌else◌, List, length, drop, take_while, Option, Some, None}
 use Rattle.std.specs.List.{fold}
-use Rattle.wf_model.specs.declared.limits.TheConstants.{MAX_TEXT}
+use Rattle.wf_model.specs.Limits.{max_text}
 use Rattle.wf_model.specs.Txt.{is_text_char}
 
 -- a digit more behind a number; 48 is `0`
@@ -22,4 +22,4 @@ characters token = take_while is_text_char (drop 1 token)
 
 -- the same, where they aren't too many
 unfoldable pub short_text : List ℕ → Option (List ℕ)
-short_text token = if nat_le (length (characters token)) MAX_TEXT then Some (characters token) else None
+short_text token = if nat_le (length (characters token)) max_text then Some (characters token) else None

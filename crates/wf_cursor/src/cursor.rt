@@ -37,7 +37,7 @@ pub struct Cursor<'a> {
 
 impl<'a> Model for Cursor<'a> {
     ghost use Rattle.std.specs.Prelude.{◌≤◌, ◌+◌, length, drop};
-    ghost use Rattle.wf_model.specs.declared.limits.TheConstants.{MAX_TOKENS};
+    ghost use Rattle.wf_model.specs.Limits.{max_tokens};
     ghost use Rattle.wf_cursor.specs.Input.{Input};
 
     ghost Value = { Input };
@@ -45,7 +45,7 @@ impl<'a> Model for Cursor<'a> {
     ghost view = { λ c. record { text = c.text.now; left = drop c.at c.tokens.now; at = c.at; units = c.units; events = c.events; vars = c.vars; acts = c.acts; states = c.states; names = c.names; nodes = c.nodes } };
 
     // Each declaration takes a token of its own, so the counts fit the numbers of the parts.
-    ghost invariant = { λ c. (c.at ≤ length c.tokens.now) × (length c.tokens.now ≤ MAX_TOKENS) × (length c.units ≤ c.at) × (length c.events ≤ c.at + 1) × (length c.vars ≤ c.at) × (length c.acts ≤ c.at) × (length c.states ≤ c.at) };
+    ghost invariant = { λ c. (c.at ≤ length c.tokens.now) × (length c.tokens.now ≤ max_tokens) × (length c.units ≤ c.at) × (length c.events ≤ c.at + 1) × (length c.vars ≤ c.at) × (length c.acts ≤ c.at) × (length c.states ≤ c.at) };
 }
 
 // The bytes from the first place to before the second, as far as there are any.
@@ -60,7 +60,7 @@ impl<'a> Cursor<'a> {
     /// Before the first token, with the event `fault` declared.
     #[tactic(auto, unfolding(crate::specs::Input::start_of))]
     pub fn new(alloc: Global, text: &'a [u8], tokens: &'a [Token]) -> Result<Cursor<'a>, NoMemory>
-        requires { length tokens.now ≤ MAX_TOKENS }
+        requires { length tokens.now ≤ max_tokens }
         ensures { IfOk result (λ cursor. cursor ≡ spec.start_of text.now tokens.now) }
     {
         let mut names = Names::new(alloc);

@@ -4,7 +4,7 @@ use Rattle.std.specs.List.{range_with_len}
 use Rattle.std.proofs.lemmas.Bool.{leb-true}
 use Rattle.std.proofs.lemmas.List.{map-append}
 use Rattle.std.proofs.lemmas.List.Elements.{filter-append}
-use Rattle.wf_model.specs.declared.limits.TheConstants.{MAX_EVENTS}
+use Rattle.wf_model.specs.Limits.{max_events}
 use Rattle.wf_model.specs.declared.chart.Chart.{Chart}
 use Rattle.wf_model.specs.Accepted.{IsAccepted, is_small}
 use Rattle.wf_semantics.proofs.Facts.{rules}
@@ -28,10 +28,10 @@ filter_more f p i =
     ∙ ap (map f) (filter-append p (range_with_len 0 i) (i ∷ []))
     ∙ map-append f (filter p (range_with_len 0 i)) (filter p (i ∷ []))
 
-few_of : (chart : Chart) → is_small chart ≡ true → length chart.events ≤ MAX_EVENTS
+few_of : (chart : Chart) → is_small chart ≡ true → length chart.events ≤ max_events
 unfolding is_small
-few_of chart h = leb-true (length chart.events) MAX_EVENTS (grind arith)
+few_of chart h = leb-true (length chart.events) max_events (grind arith)
 
 -- an accepted chart has few events
-pub few_events : (chart : Chart) → IsAccepted chart → length chart.events ≤ MAX_EVENTS
+pub few_events : (chart : Chart) → IsAccepted chart → length chart.events ≤ max_events
 few_events chart ok = few_of chart (rules chart ok).small

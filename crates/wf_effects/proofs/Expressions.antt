@@ -4,7 +4,7 @@ use Rattle.std.specs.Prelude.{nat_lt, nat_le, is_ok, IsSome, IsOk}
 use Rattle.std.specs.List.{list_all}
 use Rattle.std.specs.Option.{option_map}
 use Rattle.std.proofs.lemmas.Bool.{leb-true}
-use Rattle.wf_model.specs.declared.limits.TheConstants.{MAX_NODES, MAX_ACTIONS}
+use Rattle.wf_model.specs.Limits.{max_nodes, max_actions}
 use Rattle.wf_model.specs.declared.value.Val.{Val}
 use Rattle.wf_model.specs.declared.value.Sort.{Sort}
 use Rattle.wf_model.specs.declared.value.Sort.TheVariants as sorts
@@ -56,7 +56,7 @@ known chart seen (e.Bin' op p (more_of-Expr x end_of-Expr) q (more_of-Expr y end
 
 -- an expression of the chart, of this sort
 pub record IsExprOf (chart : Chart) (x : Expr) (sort : Sort) : Type 0 where
-  pub small : nodes x ≤ MAX_NODES
+  pub small : nodes x ≤ max_nodes
   pub sorted : sort_of (var_sort chart) x ≡ Ok sort
   pub known : is_known_expr chart x ≡ true
 
@@ -94,18 +94,18 @@ guard_of chart t trans guard ok e q =
     let small = all_at is_small_transition chart.transitions p.small_transitions t trans e in
     let named = all_at (is_known_transition chart) chart.transitions p.known_transitions t trans e in
     let sorted = sorted_at chart t trans ok e in
-    let few : all_of (λ (x : Expr). nat_le (nodes x) MAX_NODES) trans.guard ≡ true = grind arith in
+    let few : all_of (λ (x : Expr). nat_le (nodes x) max_nodes) trans.guard ≡ true = grind arith in
     let found : all_of (is_known_expr chart) trans.guard ≡ true = grind arith in
     let fits : all_of (λ (x : Expr). has_sort chart x sorts.Bool) trans.guard ≡ true = grind arith in
     record {
-      small = leb-true (nodes guard) MAX_NODES (ap (all_of (λ (x : Expr). nat_le (nodes x) MAX_NODES)) (sym q) ∙ few);
+      small = leb-true (nodes guard) max_nodes (ap (all_of (λ (x : Expr). nat_le (nodes x) max_nodes)) (sym q) ∙ few);
       sorted = gives_is sorts.Bool (sort_of (var_sort chart) guard) (ap (all_of (λ (x : Expr). has_sort chart x sorts.Bool)) (sym q) ∙ fits);
       known = ap (all_of (is_known_expr chart)) (sym q) ∙ found;
     }
 
 -- actions of the chart
 pub record AreActionsOf (chart : Chart) (acts : List Action) : Type 0 where
-  pub few : length acts ≤ MAX_ACTIONS
+  pub few : length acts ≤ max_actions
   pub small : list_all is_small_action acts ≡ true
   pub known : list_all (is_known_action chart) acts ≡ true
   pub sorted : list_all (is_sorted_action chart) acts ≡ true
@@ -118,7 +118,7 @@ actions_are chart t trans ok e =
     let named = all_at (is_known_transition chart) chart.transitions p.known_transitions t trans e in
     let sorted = sorted_at chart t trans ok e in
     record {
-      few = leb-true (length trans.actions) MAX_ACTIONS (grind arith);
+      few = leb-true (length trans.actions) max_actions (grind arith);
       small = grind arith;
       known = grind arith;
       sorted = grind arith;
@@ -133,4 +133,4 @@ value_of_action chart acts i x value are e =
     let w = item_at chart.vars x.0 lt in
     let is : var_sort chart x.0 ≡ Some w.0.sort = ap (option_map (λ var. var.sort)) w.1 in
     let fits = ap (all_of (has_sort chart value)) (sym is) ∙ all_at (is_sorted_action chart) acts are.sorted i (Assign x value) e in
-    (lt, w.0.sort, is, record { small = leb-true (nodes value) MAX_NODES small; sorted = gives_is w.0.sort (sort_of (var_sort chart) value) fits; known = named.1 })
+    (lt, w.0.sort, is, record { small = leb-true (nodes value) max_nodes small; sorted = gives_is w.0.sort (sort_of (var_sort chart) value) fits; known = named.1 })

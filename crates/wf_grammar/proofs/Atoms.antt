@@ -1,6 +1,6 @@
 -- What the rule of atoms reads is spelled.
 use Rattle.std.proofs.Common.{◌≡◌, ℕ, zero, suc, ◌+◌, ◌<◌, Bool, true, false, List, [], ◌∷◌, Some, None, Ok, refl, sym, ◌∙◌, ap, ap₂, subst, arith}
-use Rattle.wf_model.specs.declared.limits.TheConstants.{MAX_NODES}
+use Rattle.wf_model.specs.Limits.{max_nodes}
 use Rattle.wf_model.specs.declared.expr.Expr.{Expr}
 use Rattle.wf_model.specs.declared.expr.Expr.TheVariants as e
 use Rattle.wf_model.specs.Accepted.{nodes}
@@ -21,7 +21,7 @@ use Rattle.wf_grammar.proofs.Taking.{Phrase, Took, IsSound}
 
 -- one token that makes a node
 one : (i : Input) (P : Phrase) (t : Token) (rest : List Token) (at count : ℕ) (x y : Expr) (j : Input)
-    → P (lexeme_of i.text t ∷ []) y → nodes y ≡ 1 → count < MAX_NODES → pure y (here i rest (at + 1) (count + 1)) ≡ Ok (x, j) → Took i P (t ∷ rest) at count x j
+    → P (lexeme_of i.text t ∷ []) y → nodes y ≡ 1 → count < max_nodes → pure y (here i rest (at + 1) (count + 1)) ≡ Ok (x, j) → Took i P (t ∷ rest) at count x j
 one i P t rest at count x y j spelled single room h =
     let gave = pure_gives y x (here i rest (at + 1) (count + 1)) j h in
     let size : nodes x ≡ 1 = ap nodes (sym gave.0) ∙ single in
@@ -75,7 +75,7 @@ module _ (i : Input) (depth : ℕ) where
 tested : {A : Type 0} (i : Input) (as_this : A → Declared) (make : A → Expr) (depth : ℕ) (t : Token) (rest : List Token) (at count : ℕ) (x : Expr) (j : Input)
     → ((d : ℕ) (opens w closes : Lexeme) (v : A) → Is pieces.OpenParen opens → IsNameOf i.names (as_this v) w → Is pieces.CloseParen closes
     → Spells i.names (suc d) Rank.atom (lexeme_of i.text t ∷ opens ∷ w ∷ closes ∷ []) (make v))
-    → ((v : A) → nodes (make v) ≡ 1) → count < MAX_NODES
+    → ((v : A) → nodes (make v) ≡ 1) → count < max_nodes
     → TookInside i as_this depth rest (at + 1) (count + 1) (λ v. pure (make v)) x j
     → Took i (Spells i.names depth Rank.atom) (t ∷ rest) at count x j
 tested {A} i as_this make zero t rest at count x j spells single room s = absurd (let some = s.may_open in omega arith)

@@ -2,7 +2,7 @@
 use Rattle.std.proofs.Common.{◌≡◌, ℕ, ◌+◌, ◌≤◌, true, if◌then◌else◌, nat_lt, List, [], ◌∷◌, ◌++◌, length, map, Result, Ok, Err, refl, ◌∙◌, ap, subst, append-nil, arith}
 use Rattle.std.proofs.lemmas.Bool.Decides.{nat_tests}
 use Rattle.wf_model.specs.declared.chart.Transition.{Transition}
-use Rattle.wf_model.specs.declared.limits.TheConstants.{MAX_NAME}
+use Rattle.wf_model.specs.Limits.{max_name}
 use Rattle.wf_lex.specs.declared.token.Token.{Token}
 use Rattle.wf_lex.specs.declared.token.LexFault.{LexFault}
 use Rattle.wf_lex.specs.Lex.{tokens_of}
@@ -131,7 +131,7 @@ late_read text name left at count x j h =
 
 -- three tokens before them
 filled_is_chart : (text : List ℕ) (word n ends : Token) (left : List Token) (x : Contents) (j : Input)
-    → Is pieces.Chart (lexeme_of text word) → Is pieces.Name (lexeme_of text n) → length (lexeme_of text n).bytes ≤ MAX_NAME → Is pieces.Semicolon (lexeme_of text ends)
+    → Is pieces.Chart (lexeme_of text word) → Is pieces.Name (lexeme_of text n) → length (lexeme_of text n).bytes ≤ max_name → Is pieces.Semicolon (lexeme_of text ends)
     → Filled text (lexeme_of text n).bytes left x j → IsChart (map (lexeme_of text) (word ∷ n ∷ ends ∷ left)) (chart_with x.0 x.1 j)
 unfolding chart_with
 filled_is_chart text word n ends left x j is_chart_word is_name is_short is_end f =
@@ -142,7 +142,7 @@ filled_is_chart text word n ends left x j is_chart_word is_name is_short is_end 
     (is_chart (lexeme_of text word) name (lexeme_of text ends) f.s f.s' x.1 is_chart_word is_name is_short is_end f.declared f.drawn f.moved)))
 
 named_read : (text : List ℕ) (tokens : List Token) (word n : Token) (behind_word behind_name : List Token) (at : ℕ) (x : Contents) (j : Input)
-    → Is pieces.Chart (lexeme_of text word) → Is pieces.Name (lexeme_of text n) → length (lexeme_of text n).bytes ≤ MAX_NAME
+    → Is pieces.Chart (lexeme_of text word) → Is pieces.Name (lexeme_of text n) → length (lexeme_of text n).bytes ≤ max_name
     → tokens ≡ word ∷ behind_word → behind_word ≡ n ∷ behind_name
     → and_then (input.expect pieces.Semicolon (here (within text first_scope) behind_name at 0)) (λ _. late_rules (lexeme_of text n).bytes) ≡ Ok (x, j)
     → IsChart (map (lexeme_of text) tokens) (chart_with x.0 x.1 j)

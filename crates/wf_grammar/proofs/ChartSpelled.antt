@@ -1,6 +1,6 @@
 -- Tokens that are a text of a chart mean this chart.
 use Rattle.std.proofs.Common.{◌≡◌, ◌≢◌, ℕ, ◌+◌, ◌≤◌, ◌⊎◌, inl, inr, true, nat_le, List, [], ◌∷◌, ◌++◌, length, map, Option, Some, None, Result, Ok, refl, sym, ◌∙◌, ap, append-nil}
-use Rattle.wf_model.specs.declared.limits.TheConstants.{MAX_NAME}
+use Rattle.wf_model.specs.Limits.{max_name}
 use Rattle.wf_model.specs.declared.chart.Kind.{Kind}
 use Rattle.wf_model.specs.declared.chart.Kind.TheVariants as kinds
 use Rattle.wf_model.specs.declared.chart.Transition.{Transition}
@@ -90,14 +90,14 @@ root_begins s (drawing.root {ws} drawn) ts at =
 -- ---- the steps of a chart
 
 any_name_gives : (text : List ℕ) (s : Scope) (w : Lexeme) (ws : List Lexeme) (left : List Token) (at count : ℕ) → map (lexeme_of text) left ≡ w ∷ ws
-    → Is pieces.Name w → length w.bytes ≤ MAX_NAME → Gave text s w.bytes ws (input.name (here (within text s) left at count))
+    → Is pieces.Name w → length w.bytes ≤ max_name → Gave text s w.bytes ws (input.name (here (within text s) left at count))
 unfolding input.name name_ahead
 any_name_gives text s w ws left at count is is_name is_short =
     let h = headed (lexeme_of text) w ws left is in
     let i = within text s in
     let is_word : spelling (here i (h.token ∷ h.rest) at count) ≡ w.bytes = spelling_here i h.token h.rest at count ∙ ap (λ (v : Lexeme). v.bytes) h.token_is in
-    let short : nat_le (length (spelling (here i (h.token ∷ h.rest) at count))) MAX_NAME ≡ true =
-    ap (λ (b : List ℕ). nat_le (length b) MAX_NAME) is_word ∙ is_fit (length w.bytes) MAX_NAME is_short in
+    let short : nat_le (length (spelling (here i (h.token ∷ h.rest) at count))) max_name ≡ true =
+    ap (λ (b : List ℕ). nat_le (length b) max_name) is_word ∙ is_fit (length w.bytes) max_name is_short in
     rw h.whole (record {
       rest = h.rest;
       at = at + 1;
@@ -112,7 +112,7 @@ finished_gives text s left at count is =
     rw (emptied (lexeme_of text) left is) (record { rest = []; at = at; count = count; rest_is = refl; gives = refl })
 
 contents_give : (text : List ℕ) (s s' : Scope) (found : List Transition) (ds ss ts : List Lexeme) (word n ends : Lexeme)
-    → Is pieces.Chart word → Is pieces.Name n → length n.bytes ≤ MAX_NAME → Is pieces.Semicolon ends
+    → Is pieces.Chart word → Is pieces.Name n → length n.bytes ≤ max_name → Is pieces.Semicolon ends
     → Declarations first_scope ds s → Root s ss s' → Transitions s'.names ts found
     → (left : List Token) (at count : ℕ) → map (lexeme_of text) left ≡ word ∷ n ∷ ends ∷ (ds ++ (ss ++ ts))
     → Gave text s' (n.bytes, found) [] (contents (here (within text first_scope) left at count))

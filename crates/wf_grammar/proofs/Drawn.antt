@@ -1,6 +1,6 @@
 -- States that are read are in the grammar.
 use Rattle.std.proofs.Common.{◌≡◌, ℕ, zero, suc, ◌+◌, inl, inr, List, [], ◌∷◌, ◌++◌, length, map, Option, Some, None, Ok, refl, sym, ◌∙◌, ap, subst, append_assoc}
-use Rattle.wf_model.specs.declared.limits.TheConstants.{MAX_OPEN}
+use Rattle.wf_model.specs.Limits.{max_open}
 use Rattle.wf_model.specs.declared.ids.StateId.{StateId}
 use Rattle.wf_model.specs.declared.chart.Kind.{Kind}
 use Rattle.wf_model.specs.declared.chart.Kind.TheVariants as kinds
@@ -184,7 +184,7 @@ root_reads text s left at count j h = by_kind (kind_of (piece (here (within text
     by_kind : (k : Option Kind) → root_by k (here (within text s) left at count) ≡ Ok (tt, j) → Changed text (Root s) left j
     by_kind None h' = ends_changed text (Root s) s [] left left at count j refl phrase.no_root h'
     by_kind (Some k) h' =
-        let r = state_reads text MAX_OPEN (opened_reads text MAX_OPEN) None s left at count j h' in
+        let r = state_reads text max_open (opened_reads text max_open) None s left at count j h' in
         record { after = r.after; words = r.words; rest = r.rest; at = r.at; count = r.count; whole = r.whole; taken = phrase.root r.taken; end = r.end }
 
 pub root_read : RootReadIsSpelled

@@ -1,7 +1,7 @@
 -- What the steps of a chart's rules answer, where the lexemes that are left are given.
 use Rattle.std.proofs.Common.{◌≡◌, ◌≢◌, ℕ, ◌+◌, ◌≤◌, Bool, true, false, nat_le, List, ◌∷◌, ◌++◌, length, map, Option, Some, None, Ok, refl, sym, ◌∙◌, ap, drop, length-append, arith}
 use Rattle.std.proofs.lemmas.List.{length-map, drop_at}
-use Rattle.wf_model.specs.declared.limits.TheConstants.{MAX_NAME, MAX_INT}
+use Rattle.wf_model.specs.Limits.{max_name, max_int}
 use Rattle.wf_model.specs.declared.ids.UnitId.{UnitId}
 use Rattle.wf_model.specs.declared.ids.EventId.{EventId}
 use Rattle.wf_model.specs.declared.ids.VarId.{VarId}
@@ -120,13 +120,13 @@ module _ (text : List ℕ) (s : Scope) (left : List Token) (at count : ℕ) wher
         rw (name_here (within text s) t rest at count (declared_as_a.Event x) m) (rw (declared_is (within text s) t rest at count (declared_as_a.Event x) m)
         (ap (λ (k : Input). Ok (x, k)) (next_here (within text s) t rest at count))))
 
-    pub int_gives : (n : ℕ) → Is pieces.Int w → number_up_to MAX_INT w.bytes ≡ Some n → Gave text s n ws (input.int (here (within text s) left at count))
-    int_gives n is_piece reads = taken_gives w ws n input.int is (λ t rest same. int_here (within text s) t rest at count n (ap (λ (v : Lexeme). v.piece) same ∙ is_piece) (ap (λ (v : Lexeme). number_up_to MAX_INT v.bytes) same ∙ reads))
+    pub int_gives : (n : ℕ) → Is pieces.Int w → number_up_to max_int w.bytes ≡ Some n → Gave text s n ws (input.int (here (within text s) left at count))
+    int_gives n is_piece reads = taken_gives w ws n input.int is (λ t rest same. int_here (within text s) t rest at count n (ap (λ (v : Lexeme). v.piece) same ∙ is_piece) (ap (λ (v : Lexeme). number_up_to max_int v.bytes) same ∙ reads))
 
-    pub negated_int_gives : (n : ℕ) → Is pieces.Int w → number_up_to (MAX_INT + 1) w.bytes ≡ Some n → Gave text s n ws (input.negated_int (here (within text s) left at count))
+    pub negated_int_gives : (n : ℕ) → Is pieces.Int w → number_up_to (max_int + 1) w.bytes ≡ Some n → Gave text s n ws (input.negated_int (here (within text s) left at count))
     unfolding input.negated_int int_up_to
     negated_int_gives n is_piece reads = taken_gives w ws n input.negated_int is (λ t rest same.
-        let found : number_up_to (MAX_INT + 1) (spelling (here (within text s) (t ∷ rest) at count)) ≡ Some n = ap (number_up_to (MAX_INT + 1)) (spelling_here (within text s) t rest at count) ∙ ap (λ (v : Lexeme). number_up_to (MAX_INT + 1) v.bytes) same ∙ reads in
+        let found : number_up_to (max_int + 1) (spelling (here (within text s) (t ∷ rest) at count)) ≡ Some n = ap (number_up_to (max_int + 1)) (spelling_here (within text s) t rest at count) ∙ ap (λ (v : Lexeme). number_up_to (max_int + 1) v.bytes) same ∙ reads in
         rw (sees_here (within text s) t rest at count pieces.Int (ap (λ (v : Lexeme). v.piece) same ∙ is_piece)) (rw found (ap (λ (k : Input). Ok (n, k)) (next_here (within text s) t rest at count))))
 
     pub text_gives : (cs : List ℕ) → Is pieces.Text w → short_text w.bytes ≡ Some cs → Gave text s cs ws (input.text (here (within text s) left at count))
@@ -143,8 +143,8 @@ module _ (text : List ℕ) (s : Scope) (left : List Token) (at count : ℕ) wher
       let h = headed (lexeme_of text) w ws left is in
       let i = within text s in
       let is_word : spelling (here i (h.token ∷ h.rest) at count) ≡ w.bytes = spelling_here i h.token h.rest at count ∙ ap (λ (v : Lexeme). v.bytes) h.token_is in
-      let short : nat_le (length (spelling (here i (h.token ∷ h.rest) at count))) MAX_NAME ≡ true =
-      ap (λ (b : List ℕ). nat_le (length b) MAX_NAME) is_word ∙ is_fit (length w.bytes) MAX_NAME n.is_short in
+      let short : nat_le (length (spelling (here i (h.token ∷ h.rest) at count))) max_name ≡ true =
+      ap (λ (b : List ℕ). nat_le (length b) max_name) is_word ∙ is_fit (length w.bytes) max_name n.is_short in
       let new : declared (here i (h.token ∷ h.rest) at count) ≡ None = declared_here i h.token h.rest at count ∙ ap (λ (v : Lexeme). declared_as s.names v.bytes) h.token_is ∙ n.is_new in
       let named_next : next (with_name what (here i (h.token ∷ h.rest) at count)) ≡ here (within text (named w what s)) h.rest (at + 1) count =
       ap next (with_name_here text s what h.token h.rest at count) ∙ next_here (within text (named (lexeme_of text h.token) what s)) h.token h.rest at count

@@ -1,6 +1,6 @@
 -- Lexemes of a text spell at most one expression: the reader answers it, where nothing follows.
 use Rattle.std.proofs.Common.{◌≡◌, ◌≤◌, List, [], None, Ok, ◌∙◌, sym, append-nil, length}
-use Rattle.wf_model.specs.declared.limits.TheConstants.{MAX_NODES, MAX_OPEN}
+use Rattle.wf_model.specs.Limits.{max_nodes, max_open}
 use Rattle.wf_model.specs.declared.expr.Expr.{Expr}
 use Rattle.wf_model.specs.Accepted.{nodes}
 use Rattle.wf_cursor.specs.Input.{Input, Outcome}
@@ -17,7 +17,7 @@ nothing : IsNoOperator None
 nothing o h = cc
 
 -- a whole input that is spelled is read
-whole_read : (i : Input) (ws : List Lexeme) (x : Expr) → Spells i.names MAX_OPEN Rank.expr ws x → nodes x ≤ MAX_NODES → lexemes i ≡ ws
+whole_read : (i : Input) (ws : List Lexeme) (x : Expr) → Spells i.names max_open Rank.expr ws x → nodes x ≤ max_nodes → lexemes i ≡ ws
     → expr i ≡ Ok (x, behind (length ws) (nodes x) i)
 whole_read i ws x s few is = spelled_is_read i ws [] x s few (is ∙ sym (append-nil ws)) nothing
 

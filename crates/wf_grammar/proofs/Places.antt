@@ -3,7 +3,7 @@ use Rattle.std.proofs.Common.{◌≡◌, ℕ, ◌+◌, ◌⊎◌, inl, inr, Bool
 use Rattle.wf_model.specs.declared.ids.UnitId.{UnitId}
 use Rattle.wf_model.specs.declared.ids.EventId.{EventId}
 use Rattle.wf_lex.specs.declared.token.Token.{Token}
-use Rattle.wf_model.specs.declared.limits.TheConstants.{MAX_INT}
+use Rattle.wf_model.specs.Limits.{max_int}
 use Rattle.wf_cursor.specs.declared.names.Declared.{Declared}
 use Rattle.wf_cursor.specs.declared.names.Declared.TheVariants as declared_as_a
 use Rattle.wf_cursor.specs.declared.piece.Piece.{Piece}
@@ -183,9 +183,9 @@ unfolding input.event
 event_then i B left at count f y j h = name_by i declared_as_a.Event event_by left at count f y j (event_inverts f y j) h
 
 pub negated_int_then : {B : Type 0} (i : Input) (left : List Token) (at count : ℕ) (f : ℕ → Parser B) (y : B) (j : Input)
-    → and_then (input.negated_int (here i left at count)) f ≡ Ok (y, j) → TookValue i pieces.Int (number_up_to (MAX_INT + 1)) left at count f y j
+    → and_then (input.negated_int (here i left at count)) f ≡ Ok (y, j) → TookValue i pieces.Int (number_up_to (max_int + 1)) left at count f y j
 unfolding input.negated_int int_up_to
-negated_int_then i left at count f y j h = value_by i pieces.Int (number_up_to (MAX_INT + 1)) int_by left at count f y j (int_inverts f y j) h
+negated_int_then i left at count f y j h = value_by i pieces.Int (number_up_to (max_int + 1)) int_by left at count f y j (int_inverts f y j) h
 
 -- a name was taken that was new, and is declared as this now
 pub record TookNew {B : Type 0} (text : List ℕ) (s : Scope) (what : Declared) (left : List Token) (at count : ℕ) (f : List ℕ → Parser B) (y : B) (j : Input) : Type 0 where

@@ -1,7 +1,7 @@
 -- What each rule reads is spelled, from atoms up to expressions.
 use Rattle.std.proofs.Common.{◌≡◌, ℕ, zero, suc, ◌+◌, ◌≤◌, Bool, true, false, if◌then◌else◌, List, [], ◌∷◌, ◌++◌, length, map, drop, Ok, refl, sym, ◌∙◌, ap, ap₂, subst, arith, append_assoc, length-append}
 use Rattle.std.proofs.lemmas.List.{map-append, length-map, drop_at}
-use Rattle.wf_model.specs.declared.limits.TheConstants.{MAX_NODES, MAX_OPEN}
+use Rattle.wf_model.specs.Limits.{max_nodes, max_open}
 use Rattle.wf_model.specs.declared.expr.Expr.{Expr}
 use Rattle.wf_model.specs.declared.expr.Expr.TheVariants as e
 use Rattle.wf_model.specs.Accepted.{nodes}
@@ -132,13 +132,13 @@ parens_sound i (suc depth) t rest at count x j is h =
     closed i depth t rest at count x s.value s.between j is took s.second
 
 -- an expression was read from the start, so the laws' words hold of what it took
-told : (i j : Input) (x : Expr) → Took i (Spells i.names MAX_OPEN Rank.expr) i.left i.at 0 x j
-    → (ws : List Lexeme) × Spells i.names MAX_OPEN Rank.expr ws x × (nodes x ≤ MAX_NODES) × (lexemes i ≡ ws ++ lexemes j) × (j ≡ behind (length ws) (nodes x) i)
+told : (i j : Input) (x : Expr) → Took i (Spells i.names max_open Rank.expr) i.left i.at 0 x j
+    → (ws : List Lexeme) × Spells i.names max_open Rank.expr ws x × (nodes x ≤ max_nodes) × (lexemes i ≡ ws ++ lexemes j) × (j ≡ behind (length ws) (nodes x) i)
 told i j x took =
     let words = map (lexeme_of i.text) took.words in
     let long : length took.words ≡ length words = sym (length-map took.words (lexeme_of i.text)) in
     let rest : drop (length words) i.left ≡ took.rest = ap (drop (length words)) took.whole ∙ drop_at took.words took.rest (length words) long in
-    let few : nodes x ≤ MAX_NODES = (let f = took.few in omega arith) in
+    let few : nodes x ≤ max_nodes = (let f = took.few in omega arith) in
     let total : 0 + nodes x ≡ nodes x = omega arith in (
       words,
       took.spelled,
@@ -149,4 +149,4 @@ told i j x took =
 
 pub read_is_spelled : ReadIsSpelled
 unfolding expr without_nodes
-read_is_spelled i j x h = told i j x (disj_sound i MAX_OPEN (parens MAX_OPEN) (parens_sound i MAX_OPEN) i.left i.at 0 x j h)
+read_is_spelled i j x h = told i j x (disj_sound i max_open (parens max_open) (parens_sound i max_open) i.left i.at 0 x j h)

@@ -1,6 +1,6 @@
 -- What a step took, where it and what follows it answer.
 use Rattle.std.proofs.Common.{◌≡◌, ◌≢◌, ℕ, ◌+◌, ◌<◌, ◌≤◌, ◌==◌, Bool, true, false, if◌then◌else◌, nat_lt, nat_le, List, ◌∷◌, length, Option, Some, None, Ok, refl, sym, ◌∙◌, ap, subst, arith, true≢false, eq-eqb}
-use Rattle.wf_model.specs.declared.limits.TheConstants.{MAX_NAME, MAX_NODES, MAX_INT}
+use Rattle.wf_model.specs.Limits.{max_name, max_nodes, max_int}
 use Rattle.wf_model.specs.declared.ids.VarId.{VarId}
 use Rattle.wf_model.specs.declared.ids.StateId.{StateId}
 use Rattle.wf_model.specs.declared.ids.ActId.{ActId}
@@ -23,11 +23,11 @@ passed true ok err f y j refused h = (refl, h)
 passed false ok err f y j refused h = absurd (refused f y j h)
 
 pub node_then : {B : Type 0} (i : Input) (left : List Token) (at count : ℕ) (f : Unit {0} → Parser B) (y : B) (j : Input)
-    → and_then (node (here i left at count)) f ≡ Ok (y, j) → (count < MAX_NODES) × (f tt (here i left at (count + 1)) ≡ Ok (y, j))
+    → and_then (node (here i left at count)) f ≡ Ok (y, j) → (count < max_nodes) × (f tt (here i left at (count + 1)) ≡ Ok (y, j))
 unfolding node
 node_then i left at count f y j h =
-    let p = passed (nat_lt count MAX_NODES) (Ok (tt, here i left at (count + 1))) (oversize (here i left at count)) f y j (λ g z k e. cc) h in
-    (less_is count MAX_NODES p.0, p.1)
+    let p = passed (nat_lt count max_nodes) (Ok (tt, here i left at (count + 1))) (oversize (here i left at count)) f y j (λ g z k e. cc) h in
+    (less_is count max_nodes p.0, p.1)
 
 -- a token of this piece was taken
 pub record TookOne {B : Type 0} (i : Input) (p : Piece) (left : List Token) (at count : ℕ) (f : Parser B) (y : B) (j : Input) : Type 0 where
@@ -81,24 +81,24 @@ pub record NameAhead {B : Type 0} (i : Input) (left : List Token) (at count : �
   pub rest : List Token
   pub whole : left ≡ token ∷ rest
   pub is_name : Is pieces.Name (lexeme_of i.text token)
-  pub is_short : length (lexeme_of i.text token).bytes ≤ MAX_NAME
+  pub is_short : length (lexeme_of i.text token).bytes ≤ max_name
   pub goes_on : f (here i (token ∷ rest) at count) ≡ Ok (y, j)
 
 pub name_then : {B : Type 0} (i : Input) (left : List Token) (at count : ℕ) (f : Unit {0} → Parser B) (y : B) (j : Input)
     → and_then (name_ahead (here i left at count)) f ≡ Ok (y, j) → NameAhead i left at count (f tt) y j
 unfolding name_ahead
 name_then i left at count f y j h =
-    let q = passed (sees pieces.Name (here i left at count)) (if nat_le (length (spelling (here i left at count))) MAX_NAME then Ok (tt, here i left at count) else oversize (here i left at count)) (syntax (here i left at count)) f y j (λ g z k e. cc) h in
-    let r = passed (nat_le (length (spelling (here i left at count))) MAX_NAME) (Ok (tt, here i left at count)) (oversize (here i left at count)) f y j (λ g z k e. cc) q.1 in
+    let q = passed (sees pieces.Name (here i left at count)) (if nat_le (length (spelling (here i left at count))) max_name then Ok (tt, here i left at count) else oversize (here i left at count)) (syntax (here i left at count)) f y j (λ g z k e. cc) h in
+    let r = passed (nat_le (length (spelling (here i left at count))) max_name) (Ok (tt, here i left at count)) (oversize (here i left at count)) f y j (λ g z k e. cc) q.1 in
     let s = seen_here i pieces.Name left at count q.0 in
-    let short : nat_le (length (spelling (here i (s.token ∷ s.rest) at count))) MAX_NAME ≡ true = rw s.whole at r.0 in
+    let short : nat_le (length (spelling (here i (s.token ∷ s.rest) at count))) max_name ≡ true = rw s.whole at r.0 in
     let h' : f tt (here i (s.token ∷ s.rest) at count) ≡ Ok (y, j) = rw s.whole at r.1 in
     record {
       token = s.token;
       rest = s.rest;
       whole = s.whole;
       is_name = s.is;
-      is_short = fits_is (length (lexeme_of i.text s.token).bytes) MAX_NAME (rw (spelling_here i s.token s.rest at count) at short);
+      is_short = fits_is (length (lexeme_of i.text s.token).bytes) max_name (rw (spelling_here i s.token s.rest at count) at short);
       goes_on = h';
     }
 
@@ -188,9 +188,9 @@ text_inverts f y j (Some t) k h = (t, refl, h)
 text_inverts f y j None k h = cc
 
 pub int_then : {B : Type 0} (i : Input) (left : List Token) (at count : ℕ) (f : ℕ → Parser B) (y : B) (j : Input)
-    → and_then (input.int (here i left at count)) f ≡ Ok (y, j) → TookValue i pieces.Int (number_up_to MAX_INT) left at count f y j
+    → and_then (input.int (here i left at count)) f ≡ Ok (y, j) → TookValue i pieces.Int (number_up_to max_int) left at count f y j
 unfolding input.int int_up_to
-int_then i left at count f y j h = value_by i pieces.Int (number_up_to MAX_INT) int_by left at count f y j (int_inverts f y j) h
+int_then i left at count f y j h = value_by i pieces.Int (number_up_to max_int) int_by left at count f y j (int_inverts f y j) h
 
 pub text_then : {B : Type 0} (i : Input) (left : List Token) (at count : ℕ) (f : List ℕ → Parser B) (y : B) (j : Input)
     → and_then (input.text (here i left at count)) f ≡ Ok (y, j) → TookValue i pieces.Text short_text left at count f y j

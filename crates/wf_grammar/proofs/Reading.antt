@@ -1,6 +1,6 @@
 -- What is spelled is read: how that is shown of rules that are made of rules.
 use Rattle.std.proofs.Common.{◌≡◌, ℕ, zero, suc, ◌+◌, ◌<◌, ◌≤◌, List, ◌∷◌, ◌++◌, length, map, Option, Some, None, Ok, refl, sym, ◌∙◌, ap, ap₂, subst, arith, append_assoc, length-append}
-use Rattle.wf_model.specs.declared.limits.TheConstants.{MAX_NODES}
+use Rattle.wf_model.specs.Limits.{max_nodes}
 use Rattle.wf_model.specs.declared.expr.Op.{Op}
 use Rattle.wf_model.specs.declared.expr.Expr.{Expr}
 use Rattle.wf_model.specs.declared.expr.Expr.TheVariants as e
@@ -22,17 +22,17 @@ Follow = Option Piece → Type 0
 -- the rule reads these lexemes as the expression, where what follows may
 abbrev pub ReadsAs : Input → Follow → Parser Expr → List Lexeme → Expr → Type 0
 ReadsAs i May p ws x =
-    (words rest : List Token) (at count : ℕ) → map (lexeme_of i.text) words ≡ ws → count + nodes x ≤ MAX_NODES → May (first_piece (map (lexeme_of i.text) rest))
+    (words rest : List Token) (at count : ℕ) → map (lexeme_of i.text) words ≡ ws → count + nodes x ≤ max_nodes → May (first_piece (map (lexeme_of i.text) rest))
     → p (here i (words ++ rest) at count) ≡ Ok (x, here i rest (at + length words) (count + nodes x))
 
 -- a token that makes a node, and a phrase behind it
 pub prefix_reads : (i : Input) (make : Expr → Expr) (counted : (x : Expr) → nodes (make x) ≡ nodes x + 1) (p : Parser Expr) (x : Expr) (t : Token) (words rest : List Token) (at count : ℕ)
-    → count + nodes (make x) ≤ MAX_NODES
-    → (count + 1 + nodes x ≤ MAX_NODES → p (here i (words ++ rest) (at + 1) (count + 1)) ≡ Ok (x, here i rest (at + 1 + length words) (count + 1 + nodes x)))
+    → count + nodes (make x) ≤ max_nodes
+    → (count + 1 + nodes x ≤ max_nodes → p (here i (words ++ rest) (at + 1) (count + 1)) ≡ Ok (x, here i rest (at + 1 + length words) (count + 1 + nodes x)))
     → and_then (node (here i (t ∷ (words ++ rest)) at count)) (λ _. take >> (p >>= (λ y. pure (make y)))) ≡ Ok (make x, here i rest (at + suc (length words)) (count + nodes (make x)))
 prefix_reads i make counted p x t words rest at count few reads =
     let size = counted x in
-    let room : count < MAX_NODES = omega arith in
+    let room : count < max_nodes = omega arith in
     let place : at + 1 + length words ≡ at + suc (length words) = omega arith in
     let total : count + 1 + nodes x ≡ count + nodes (make x) = omega arith in
     rw (node_here i (t ∷ (words ++ rest)) at count room) (rw (next_here i t (words ++ rest) at (count + 1)) (rw (reads (omega arith))
@@ -41,12 +41,12 @@ prefix_reads i make counted p x t words rest at count few reads =
 module _ (i : Input) (May : Follow) (operator : Option Piece → Option Op) (operand : Parser Expr) where
   -- an operator and its right side
   pub turn_reads : (more : Expr → Parser Expr) (t : Token) (words rest : List Token) (vs : List Lexeme) (at count : ℕ) (op : Op) (x y : Expr)
-      → operator (Some (lexeme_of i.text t).piece) ≡ Some op → ReadsAs i May operand vs y → map (lexeme_of i.text) words ≡ vs → count + 1 + nodes y ≤ MAX_NODES
+      → operator (Some (lexeme_of i.text t).piece) ≡ Some op → ReadsAs i May operand vs y → map (lexeme_of i.text) words ≡ vs → count + 1 + nodes y ≤ max_nodes
       → May (first_piece (map (lexeme_of i.text) rest))
       → chain_by operand more x (operator (piece (here i (t ∷ (words ++ rest)) at count))) (here i (t ∷ (words ++ rest)) at count)
       ≡ more (e.Bin op x y) (here i rest (at + 1 + length words) (count + 1 + nodes y))
   turn_reads more t words rest vs at count op x y is reads words_are few may =
-      let room : count < MAX_NODES = omega arith in
+      let room : count < max_nodes = omega arith in
       rw (piece_here i t (words ++ rest) at count) (rw is (rw (node_here i (t ∷ (words ++ rest)) at count room) (rw (next_here i t (words ++ rest) at (count + 1))
       (rw (reads words rest (at + 1) (count + 1) words_are few may) refl))))
 
@@ -59,7 +59,7 @@ module _ (i : Input) (May : Follow) (operator : Option Piece → Option Op) (ope
   -- the chain reads these lexemes as the expression, and may then go on
   abbrev pub ReadsOn : List Lexeme → Expr → Type 0
   ReadsOn ws x =
-      (words rest : List Token) (at count : ℕ) → map (lexeme_of i.text) words ≡ ws → count + nodes x ≤ MAX_NODES → May (first_piece (map (lexeme_of i.text) rest))
+      (words rest : List Token) (at count : ℕ) → map (lexeme_of i.text) words ≡ ws → count + nodes x ≤ max_nodes → May (first_piece (map (lexeme_of i.text) rest))
       → IsBehind words rest at count x
 
   pub chain_begins : (ws : List Lexeme) (x : Expr) → ReadsAs i May operand ws x → ReadsOn ws x
@@ -68,7 +68,7 @@ module _ (i : Input) (May : Follow) (operator : Option Piece → Option Op) (ope
 
   -- one turn more
   one_more : (n : ℕ) (t : Token) (words rest : List Token) (vs : List Lexeme) (at count : ℕ) (op : Op) (x y : Expr) → length (t ∷ (words ++ rest)) ≤ n
-      → operator (Some (lexeme_of i.text t).piece) ≡ Some op → ReadsAs i May operand vs y → map (lexeme_of i.text) words ≡ vs → count + 1 + nodes y ≤ MAX_NODES
+      → operator (Some (lexeme_of i.text t).piece) ≡ Some op → ReadsAs i May operand vs y → map (lexeme_of i.text) words ≡ vs → count + 1 + nodes y ≤ max_nodes
       → May (first_piece (map (lexeme_of i.text) rest))
       → (m : ℕ) × (length rest ≤ m) × (chain_from operator operand n x (here i (t ∷ (words ++ rest)) at count) ≡ chain_from operator operand m (e.Bin op x y) (here i rest (at + 1 + length words) (count + 1 + nodes y)))
   unfolding chain_from

@@ -1,7 +1,7 @@
 -- What a step answers, where the next token is what it wants.
 use Rattle.std.proofs.Common.{◌≡◌, ℕ, suc, ◌+◌, ◌<◌, ◌==◌, true, false, nat_le, List, [], ◌∷◌, length, Some, Ok, refl, ◌∙◌, ap, ap₂, map, ◌++◌, arith}
 use Rattle.std.proofs.lemmas.Bool.Decides.{nat_tests}
-use Rattle.wf_model.specs.declared.limits.TheConstants.{MAX_NAME, MAX_NODES, MAX_INT}
+use Rattle.wf_model.specs.Limits.{max_name, max_nodes, max_int}
 use Rattle.wf_model.specs.declared.ids.VarId.{VarId}
 use Rattle.wf_model.specs.declared.ids.StateId.{StateId}
 use Rattle.wf_model.specs.declared.ids.ActId.{ActId}
@@ -19,9 +19,9 @@ use Rattle.wf_grammar.specs.Phrases.{Is, IsNameOf}
 use Rattle.wf_grammar.specs.Laws.{first_piece}
 use Rattle.wf_grammar.proofs.Inputs.{here, piece_here, piece_none, spelling_here, next_here, declared_here, piece_sees, is_less, is_fit}
 
-pub node_here : (i : Input) (left : List Token) (at count : ℕ) → count < MAX_NODES → node (here i left at count) ≡ Ok (tt, here i left at (count + 1))
+pub node_here : (i : Input) (left : List Token) (at count : ℕ) → count < max_nodes → node (here i left at count) ≡ Ok (tt, here i left at (count + 1))
 unfolding node
-node_here i left at count room = rw (is_less count MAX_NODES room) refl
+node_here i left at count room = rw (is_less count max_nodes room) refl
 
 module _ (i : Input) (t : Token) (rest : List Token) (at count : ℕ) where
   pub sees_here : (p : Piece) → Is p (lexeme_of i.text t) → sees p (here i (t ∷ rest) at count) ≡ true
@@ -40,7 +40,7 @@ module _ (i : Input) (t : Token) (rest : List Token) (at count : ℕ) where
   pub name_here : (what : Declared) → IsNameOf i.names what (lexeme_of i.text t) → name_ahead (here i (t ∷ rest) at count) ≡ Ok (tt, here i (t ∷ rest) at count)
   unfolding name_ahead
   name_here what is =
-      let short : nat_le (length (spelling (here i (t ∷ rest) at count))) MAX_NAME ≡ true = rw (spelling_here i t rest at count) (is_fit (length (lexeme_of i.text t).bytes) MAX_NAME is.is_short) in
+      let short : nat_le (length (spelling (here i (t ∷ rest) at count))) max_name ≡ true = rw (spelling_here i t rest at count) (is_fit (length (lexeme_of i.text t).bytes) max_name is.is_short) in
       rw (sees_here pieces.Name is.is_name) (rw short refl)
 
   pub declared_is : (what : Declared) → IsNameOf i.names what (lexeme_of i.text t) → declared (here i (t ∷ rest) at count) ≡ Some what
@@ -58,10 +58,10 @@ module _ (i : Input) (t : Token) (rest : List Token) (at count : ℕ) where
   unfolding input.activity
   activity_here a is = rw (name_here (declared_as_a.Activity a) is) (rw (declared_is (declared_as_a.Activity a) is) (ap (λ (k : Input). Ok (a, k)) (next_here i t rest at count)))
 
-  pub int_here : (n : ℕ) → Is pieces.Int (lexeme_of i.text t) → number_up_to MAX_INT (lexeme_of i.text t).bytes ≡ Some n → input.int (here i (t ∷ rest) at count) ≡ Ok (n, here i rest (at + 1) count)
+  pub int_here : (n : ℕ) → Is pieces.Int (lexeme_of i.text t) → number_up_to max_int (lexeme_of i.text t).bytes ≡ Some n → input.int (here i (t ∷ rest) at count) ≡ Ok (n, here i rest (at + 1) count)
   unfolding input.int int_up_to
   int_here n is reads =
-      let found : number_up_to MAX_INT (spelling (here i (t ∷ rest) at count)) ≡ Some n = ap (number_up_to MAX_INT) (spelling_here i t rest at count) ∙ reads in
+      let found : number_up_to max_int (spelling (here i (t ∷ rest) at count)) ≡ Some n = ap (number_up_to max_int) (spelling_here i t rest at count) ∙ reads in
       rw (sees_here pieces.Int is) (rw found (ap (λ (k : Input). Ok (n, k)) (next_here i t rest at count)))
 
   pub text_here : (cs : List ℕ) → Is pieces.Text (lexeme_of i.text t) → short_text (lexeme_of i.text t).bytes ≡ Some cs → input.text (here i (t ∷ rest) at count) ≡ Ok (cs, here i rest (at + 1) count)

@@ -1,7 +1,7 @@
 -- What is spelled is read, from atoms up to expressions.
 use Rattle.std.proofs.Common.{◌≡◌, ℕ, suc, ◌+◌, ◌≤◌, Bool, true, false, List, [], ◌∷◌, ◌++◌, length, map, drop, Some, Ok, Err, refl, sym, ◌∙◌, ap, ap₂, subst, arith, append_assoc, length-append}
 use Rattle.std.proofs.lemmas.List.{drop_at, length-map}
-use Rattle.wf_model.specs.declared.limits.TheConstants.{MAX_NODES, MAX_OPEN}
+use Rattle.wf_model.specs.Limits.{max_nodes, max_open}
 use Rattle.wf_model.specs.declared.expr.Op.{Op}
 use Rattle.wf_model.specs.declared.expr.Expr.{Expr}
 use Rattle.wf_model.specs.declared.expr.Expr.TheVariants as e
@@ -206,9 +206,9 @@ spelled_is_read i ws more x s few is none =
     let long : length p.left ≡ length ws = sym (length-map p.left (lexeme_of i.text)) ∙ ap length p.left_is in
     let rest : drop (length ws) i.left ≡ p.right = ap (drop (length ws)) p.whole ∙ drop_at p.left p.right (length ws) long in
     let total : 0 + nodes x ≡ nodes x = omega arith in
-    let fits : 0 + nodes x ≤ MAX_NODES = omega arith in
+    let fits : 0 + nodes x ≤ max_nodes = omega arith in
     let follows : EndsExpr (first_piece (map (lexeme_of i.text) p.right)) = no_operator_ends (first_piece (map (lexeme_of i.text) p.right)) (subst (λ (ls : List Lexeme). IsNoOperator (first_piece ls)) (sym p.right_is) none) in
-    ap (λ (ls : List Token). disj MAX_OPEN (parens MAX_OPEN) (here i ls i.at 0)) p.whole
-    ∙ whole_expr i MAX_OPEN ws x (spelled_reads i s) p.left p.right i.at 0 p.left_is fits follows
+    ap (λ (ls : List Token). disj max_open (parens max_open) (here i ls i.at 0)) p.whole
+    ∙ whole_expr i max_open ws x (spelled_reads i s) p.left p.right i.at 0 p.left_is fits follows
     ∙ ap₂ (λ (ls : List Token) (n : ℕ). Ok (x, here i ls (i.at + n) (0 + nodes x))) (sym rest) long
     ∙ ap (λ (c : ℕ). Ok (x, here i (drop (length ws) i.left) (i.at + length ws) c)) total

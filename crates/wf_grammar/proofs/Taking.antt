@@ -1,7 +1,7 @@
 -- What a rule took is spelled: how that is shown of rules that are made of rules.
 use Rattle.std.proofs.Common.{◌≡◌, ℕ, zero, suc, ◌+◌, ◌≤◌, List, [], ◌∷◌, ◌++◌, length, map, Option, Some, None, Ok, refl, sym, ◌∙◌, ap, ap₂, subst, arith, append_assoc, length-append}
 use Rattle.std.proofs.lemmas.List.{map-append}
-use Rattle.wf_model.specs.declared.limits.TheConstants.{MAX_NODES}
+use Rattle.wf_model.specs.Limits.{max_nodes}
 use Rattle.wf_model.specs.declared.expr.Op.{Op}
 use Rattle.wf_model.specs.declared.expr.Expr.{Expr}
 use Rattle.wf_model.specs.declared.expr.Expr.TheVariants as e
@@ -25,7 +25,7 @@ pub record Took (i : Input) (P : Phrase) (left : List Token) (at count : ℕ) (x
   pub rest : List Token
   pub whole : left ≡ words ++ rest
   pub spelled : P (map (lexeme_of i.text) words) x
-  pub few : count + nodes x ≤ MAX_NODES
+  pub few : count + nodes x ≤ max_nodes
   pub end : j ≡ here i rest (at + length words) (count + nodes x)
 
 -- what this rule reads is spelled
@@ -68,7 +68,7 @@ pub record Before (i : Input) (P : Phrase) (at0 count0 : ℕ) (words : List Toke
   pub spelled : P (map (lexeme_of i.text) words) l
   pub place : at ≡ at0 + length words
   pub total : count ≡ count0 + nodes l
-  pub few : count ≤ MAX_NODES
+  pub few : count ≤ max_nodes
 
 -- a rule that goes on behind a left side reads what is spelled
 abbrev pub GoesOn : Input → (P Q : Phrase) → (Expr → Parser Expr) → Type 0

@@ -1,6 +1,6 @@
 -- The grammar of charts: chart = chart NAME ; { decl } [ state ] { trans }
 use Rattle.std.specs.Prelude.{◌≤◌, List, ◌∷◌, ◌++◌, length}
-use Rattle.wf_model.specs.declared.limits.TheConstants.{MAX_NAME}
+use Rattle.wf_model.specs.Limits.{max_name}
 use Rattle.wf_model.specs.declared.chart.Transition.{Transition}
 use Rattle.wf_model.specs.declared.chart.Chart.{Chart}
 use Rattle.wf_cursor.specs.declared.piece.Piece.TheVariants as pieces
@@ -14,7 +14,7 @@ use Rattle.wf_grammar.specs.Moving.{Transitions}
 -- the lexemes are a text of this chart
 pub data IsChart : List Lexeme → Chart → Type 0 where
   is_chart : {ds ss ts : List Lexeme} (word n ends : Lexeme) (s s' : Scope) (found : List Transition)
-      → Is pieces.Chart word → Is pieces.Name n → length n.bytes ≤ MAX_NAME → Is pieces.Semicolon ends
+      → Is pieces.Chart word → Is pieces.Name n → length n.bytes ≤ max_name → Is pieces.Semicolon ends
       → Declarations first_scope ds s → Root s ss s' → Transitions s'.names ts found
       → IsChart (word ∷ n ∷ ends ∷ (ds ++ (ss ++ ts))) (record {
         name = n.bytes;

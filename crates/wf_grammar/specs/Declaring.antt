@@ -6,7 +6,7 @@ use Rattle.wf_model.specs.declared.value.Sort.{Sort}
 use Rattle.wf_model.specs.declared.value.Sort.TheVariants as sorts
 use Rattle.wf_model.specs.declared.value.Val.{Val}
 use Rattle.wf_model.specs.declared.value.Val.TheVariants as v
-use Rattle.wf_model.specs.declared.limits.TheConstants.{MAX_INT}
+use Rattle.wf_model.specs.Limits.{max_int}
 use Rattle.wf_cursor.specs.declared.names.Declared.TheVariants as declared_as_a
 use Rattle.wf_cursor.specs.declared.piece.Piece.{Piece}
 use Rattle.wf_cursor.specs.declared.piece.Piece.TheVariants as pieces
@@ -25,8 +25,8 @@ word_of_sort sorts.Text = pieces.TextSort
 pub data Literal : List Lexeme → Val → Type 0 where
   literal_true : (w : Lexeme) → Is pieces.True w → Literal (w ∷ []) (v.Bool true)
   literal_false : (w : Lexeme) → Is pieces.False w → Literal (w ∷ []) (v.Bool false)
-  literal_int : (w : Lexeme) (n : ℕ) → Is pieces.Int w → number_up_to MAX_INT w.bytes ≡ Some n → Literal (w ∷ []) (v.Int (pos n))
-  literal_minus : (minus w : Lexeme) (n : ℕ) → Is pieces.Minus minus → Is pieces.Int w → number_up_to (MAX_INT + 1) w.bytes ≡ Some n
+  literal_int : (w : Lexeme) (n : ℕ) → Is pieces.Int w → number_up_to max_int w.bytes ≡ Some n → Literal (w ∷ []) (v.Int (pos n))
+  literal_minus : (minus w : Lexeme) (n : ℕ) → Is pieces.Minus minus → Is pieces.Int w → number_up_to (max_int + 1) w.bytes ≡ Some n
       → Literal (minus ∷ w ∷ []) (v.Int (neg_ℤ (pos n)))
   literal_text : (w : Lexeme) (t : List ℕ) → Is pieces.Text w → short_text w.bytes ≡ Some t → Literal (w ∷ []) (v.Text t)
 

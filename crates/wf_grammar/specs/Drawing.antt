@@ -1,6 +1,6 @@
 -- The grammar of states as relations, with a constructor for each alternative of each of its lines.
 use Rattle.std.specs.Prelude.{ℕ, suc, List, [], ◌∷◌, ◌++◌, Option, Some, None}
-use Rattle.wf_model.specs.declared.limits.TheConstants.{MAX_OPEN}
+use Rattle.wf_model.specs.Limits.{max_open}
 use Rattle.wf_model.specs.declared.ids.UnitId.{UnitId}
 use Rattle.wf_model.specs.declared.ids.StateId.{StateId}
 use Rattle.wf_model.specs.declared.chart.Kind.{Kind}
@@ -50,4 +50,4 @@ pub data Draws : ℕ → Part → Option StateId → Scope → List Lexeme → S
 -- [ state ]: the root
 pub data Root (s : Scope) : List Lexeme → Scope → Type 0 where
   no_root : Root s [] s
-  root : {ws : List Lexeme} {s' : Scope} → Draws MAX_OPEN Part.state None s ws s' → Root s ws s'
+  root : {ws : List Lexeme} {s' : Scope} → Draws max_open Part.state None s ws s' → Root s ws s'

@@ -1,6 +1,6 @@
 -- The reader of expressions and the grammar say the same.
 use Rattle.std.specs.Prelude.{◌≡◌, ◌≢◌, ◌≤◌, ◌+◌, ℕ, List, [], ◌∷◌, ◌++◌, length, drop, Option, Some, None, Ok}
-use Rattle.wf_model.specs.declared.limits.TheConstants.{MAX_NODES, MAX_OPEN}
+use Rattle.wf_model.specs.Limits.{max_nodes, max_open}
 use Rattle.wf_model.specs.declared.expr.Op.{Op}
 use Rattle.wf_model.specs.declared.expr.Expr.{Expr}
 use Rattle.wf_model.specs.Accepted.{nodes}
@@ -19,8 +19,8 @@ abbrev pub ReadIsSpelled : Type 0
 ReadIsSpelled =
     (i j : Input) (x : Expr) → expr i ≡ Ok (x, j) →
     (ws : List Lexeme)
-    × Spells i.names MAX_OPEN Rank.expr ws x
-    × (nodes x ≤ MAX_NODES)
+    × Spells i.names max_open Rank.expr ws x
+    × (nodes x ≤ max_nodes)
     × (lexemes i ≡ ws ++ lexemes j)
     × (j ≡ behind (length ws) (nodes x) i)
 
@@ -36,7 +36,7 @@ IsNoOperator p = (o : Op) → p ≢ Some (sign_of o)
 abbrev pub SpelledIsRead : Type 0
 SpelledIsRead =
     (i : Input) (ws more : List Lexeme) (x : Expr) →
-    Spells i.names MAX_OPEN Rank.expr ws x → nodes x ≤ MAX_NODES →
+    Spells i.names max_open Rank.expr ws x → nodes x ≤ max_nodes →
     lexemes i ≡ ws ++ more → IsNoOperator (first_piece more) →
     expr i ≡ Ok (x, behind (length ws) (nodes x) i)
 
@@ -44,6 +44,6 @@ SpelledIsRead =
 abbrev pub SpellsOne : Type 0
 SpellsOne =
     (i : Input) (ws more : List Lexeme) (x y : Expr) → lexemes i ≡ ws ++ more →
-    Spells i.names MAX_OPEN Rank.expr ws x → nodes x ≤ MAX_NODES →
-    Spells i.names MAX_OPEN Rank.expr ws y → nodes y ≤ MAX_NODES →
+    Spells i.names max_open Rank.expr ws x → nodes x ≤ max_nodes →
+    Spells i.names max_open Rank.expr ws y → nodes y ≤ max_nodes →
     x ≡ y

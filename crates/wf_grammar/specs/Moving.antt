@@ -1,6 +1,6 @@
 -- The grammar of transitions as relations, with a constructor for each alternative of each of its lines.
 use Rattle.std.specs.Prelude.{◌≤◌, List, [], ◌∷◌, ◌++◌, Option, Some, None}
-use Rattle.wf_model.specs.declared.limits.TheConstants.{MAX_NODES, MAX_OPEN}
+use Rattle.wf_model.specs.Limits.{max_nodes, max_open}
 use Rattle.wf_model.specs.declared.ids.EventId.{EventId}
 use Rattle.wf_model.specs.declared.ids.VarId.{VarId}
 use Rattle.wf_model.specs.declared.ids.ActId.{ActId}
@@ -17,8 +17,8 @@ use Rattle.wf_grammar.specs.Phrases.{Names, Rank, Is, IsNameOf, Spells}
 
 -- the lexemes spell the expression, within the limits
 pub record SpellsWhole (names : Names) (ws : List Lexeme) (x : Expr) : Type 0 where
-  pub spelled : Spells names MAX_OPEN Rank.expr ws x
-  pub few : nodes x ≤ MAX_NODES
+  pub spelled : Spells names max_open Rank.expr ws x
+  pub few : nodes x ≤ max_nodes
 
 -- [ on EVENT ]
 pub data OnEvent (names : Names) : List Lexeme → Option EventId → Type 0 where

@@ -1,6 +1,6 @@
 -- The grammar of expressions as a relation, with a constructor for each alternative of each of its lines.
 use Rattle.std.specs.Prelude.{◌≡◌, ◌≤◌, ℕ, suc, true, false, List, [], ◌∷◌, ◌++◌, length, Some}
-use Rattle.wf_model.specs.declared.limits.TheConstants.{MAX_NAME, MAX_INT}
+use Rattle.wf_model.specs.Limits.{max_name, max_int}
 use Rattle.wf_model.specs.declared.ids.VarId.{VarId}
 use Rattle.wf_model.specs.declared.ids.StateId.{StateId}
 use Rattle.wf_model.specs.declared.ids.ActId.{ActId}
@@ -63,7 +63,7 @@ Is piece w = w.piece ≡ piece
 -- the lexeme is a name that is declared as this
 pub record IsNameOf (names : Names) (what : Declared) (w : Lexeme) : Type 0 where
   pub is_name : w.piece ≡ pieces.Name
-  pub is_short : length w.bytes ≤ MAX_NAME
+  pub is_short : length w.bytes ≤ max_name
   pub is_declared : declared_as names w.bytes ≡ Some what
 
 -- Where these names are declared, the lexemes spell the expression by this line of the grammar, with at most so many
@@ -107,7 +107,7 @@ pub data Spells (names : Names) : ℕ → Rank → List Lexeme → Expr → Type
   -- atom = true | false | INT | TEXT | VAR | in ( STATE ) | count ( ACTIVITY ) | done ( ACTIVITY ) | ( expr )
   atom_true : {depth : ℕ} (w : Lexeme) → Is pieces.True w → Spells names depth Rank.atom (w ∷ []) (e.Bool true)
   atom_false : {depth : ℕ} (w : Lexeme) → Is pieces.False w → Spells names depth Rank.atom (w ∷ []) (e.Bool false)
-  atom_int : {depth : ℕ} (w : Lexeme) (n : ℕ) → Is pieces.Int w → number_up_to MAX_INT w.bytes ≡ Some n → Spells names depth Rank.atom (w ∷ []) (e.Int n)
+  atom_int : {depth : ℕ} (w : Lexeme) (n : ℕ) → Is pieces.Int w → number_up_to max_int w.bytes ≡ Some n → Spells names depth Rank.atom (w ∷ []) (e.Int n)
   atom_text : {depth : ℕ} (w : Lexeme) (t : List ℕ) → Is pieces.Text w → short_text w.bytes ≡ Some t → Spells names depth Rank.atom (w ∷ []) (e.Text t)
   atom_var : {depth : ℕ} (w : Lexeme) (x : VarId) → IsNameOf names (declared_as_a.Var x) w → Spells names depth Rank.atom (w ∷ []) (e.Var x)
   atom_in : {depth : ℕ} (test opens w closes : Lexeme) (s : StateId)

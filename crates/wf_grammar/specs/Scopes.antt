@@ -1,7 +1,7 @@
 -- What is declared where a rule of a chart's text begins, and what a declaration adds.
 use Rattle.std.specs.Prelude.{◌≡◌, ◌≤◌, ℕ, List, [], ◌∷◌, ◌++◌, length, None}
 use lib.Chars.{codes}
-use Rattle.wf_model.specs.declared.limits.TheConstants.{MAX_NAME}
+use Rattle.wf_model.specs.Limits.{max_name}
 use Rattle.wf_model.specs.declared.ids.UnitId.{UnitId}
 use Rattle.wf_model.specs.declared.ids.EventId.{EventId}
 use Rattle.wf_model.specs.declared.ids.VarId.{VarId}
@@ -43,7 +43,7 @@ first_scope = record {
 -- the lexeme is a name that isn't declared yet
 pub record IsNewName (s : Scope) (w : Lexeme) : Type 0 where
   pub is_name : Is pieces.Name w
-  pub is_short : length w.bytes ≤ MAX_NAME
+  pub is_short : length w.bytes ≤ max_name
   pub is_new : declared_as s.names w.bytes ≡ None
 
 -- this name is declared as this

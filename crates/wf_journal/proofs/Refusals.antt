@@ -1,6 +1,6 @@
 -- What the test before an append says.
 use Rattle.std.proofs.Common.{◌≡◌, ◌≢◌, ℕ, ◌+◌, ◌≤◌, Bool, true, false, ◌||◌, ◌==◌, nat_lt, cond, Some, None, refl, subst, rules}
-use Rattle.wf_model.specs.declared.limits.TheConstants.{MAX_BODY, MAX_JOURNAL}
+use Rattle.wf_model.specs.Limits.{max_body, max_journal}
 use Rattle.wf_disk.specs.Disk.{Told, IsLawful, LeavesOnly}
 use Rattle.wf_disk.proofs.Runs.{started}
 use Rattle.wf_journal.specs.declared.fault.AppendFault.{AppendFault}
@@ -11,14 +11,14 @@ use Rattle.wf_journal.specs.Journal.{HasBodiesOf}
 pub record Passes (failed : Bool) (place n : ℕ) : Type 0 where
   pub failed_not : failed ≡ false
   pub some : 1 ≤ n
-  pub most : n ≤ MAX_BODY
-  pub fits : place + n + 6 ≤ MAX_JOURNAL
+  pub most : n ≤ max_body
+  pub fits : place + n + 6 ≤ max_journal
 
 pub passes : (failed : Bool) (place n : ℕ) → refusal_of failed place n ≡ None → Passes failed place n
 unfolding refusal_of
-passes failed place n = go failed refl (n == 0) refl (nat_lt MAX_BODY n) refl (nat_lt MAX_JOURNAL (place + n + 6)) refl
+passes failed place n = go failed refl (n == 0) refl (nat_lt max_body n) refl (nat_lt max_journal (place + n + 6)) refl
   where
-    go : (f : Bool) → failed ≡ f → (z : Bool) → (n == 0) ≡ z → (m : Bool) → nat_lt MAX_BODY n ≡ m → (l : Bool) → nat_lt MAX_JOURNAL (place + n + 6) ≡ l
+    go : (f : Bool) → failed ≡ f → (z : Bool) → (n == 0) ≡ z → (m : Bool) → nat_lt max_body n ≡ m → (l : Bool) → nat_lt max_journal (place + n + 6) ≡ l
         → cond f (Some Reopen) (cond (z || m) (Some TooLong) (cond l (Some Full) None)) ≡ None → Passes failed place n
     go true fi z zi m mi l li is = absurd (search (rules, is))
     go false fi true zi m mi l li is = absurd (search (rules, is))
@@ -26,8 +26,8 @@ passes failed place n = go failed refl (n == 0) refl (nat_lt MAX_BODY n) refl (n
     go false fi false zi false mi true li is = absurd (search (rules, is))
     go false fi false zi false mi false li is =
         let some : 1 ≤ n = search (rules, zi) in
-        let most : n ≤ MAX_BODY = search (rules, mi) in
-        let fits : place + n + 6 ≤ MAX_JOURNAL = search (rules, li) in
+        let most : n ≤ max_body = search (rules, mi) in
+        let fits : place + n + 6 ≤ max_journal = search (rules, li) in
         record { failed_not = fi; some = some; most = most; fits = fits }
 
 -- such a refusal is none of the others
@@ -38,7 +38,7 @@ pub data Early : AppendFault → Type 0 where
 
 pub early : (failed : Bool) (place n : ℕ) (fault : AppendFault) → refusal_of failed place n ≡ Some fault → Early fault
 unfolding refusal_of
-early failed place n fault = go failed ((n == 0) || nat_lt MAX_BODY n) (nat_lt MAX_JOURNAL (place + n + 6))
+early failed place n fault = go failed ((n == 0) || nat_lt max_body n) (nat_lt max_journal (place + n + 6))
   where
     go : (f z l : Bool) → cond f (Some Reopen) (cond z (Some TooLong) (cond l (Some Full) None)) ≡ Some fault → Early fault
     go true z l is = let same : Reopen ≡ fault = search (rules, is) in subst Early same reopen

@@ -4,7 +4,7 @@ use Rattle.std.proofs.lemmas.List.{take_at, drop_more, append-nil}
 use Rattle.std.proofs.lemmas.Bool.{cond-true}
 use Rattle.std.proofs.lemmas.Nat.{from_be_bytes-to_be_bytes_4}
 use Rattle.std.specs.Int.{w32, to_be_bytes, from_be_bytes}
-use Rattle.wf_model.specs.declared.limits.TheConstants.{MAX_BODY}
+use Rattle.wf_model.specs.Limits.{max_body}
 use Rattle.wf_journal.specs.Frames.{packed, fits, bodies_after, end_after, breaks_after, bodies_of, end_of, is_broken, IsAtRest, IsAsBefore, IsBeforeOrAfter}
 use Rattle.wf_journal.proofs.Cuts.{Cut, cut, bodies-closed, end-closed, breaks-closed}
 
@@ -21,7 +21,7 @@ breaks-skip [] ys = refl
 breaks-skip (x ∷ xs) ys = breaks-skip xs ys
 
 -- an open frame in front
-module _ (body : List ℕ) (some : 1 ≤ length body) (most : length body ≤ MAX_BODY) (rest : List ℕ) (more : 0 < length rest) where
+module _ (body : List ℕ) (some : 1 ≤ length body) (most : length body ≤ max_body) (rest : List ℕ) (more : 0 < length rest) where
   abbrev n : ℕ
   n = from_be_bytes w32 (to_be_bytes w32 (length body))
 
@@ -49,7 +49,7 @@ module _ (body : List ℕ) (some : 1 ≤ length body) (most : length body ≤ MA
   breaks-front = cond-true _ _ _ fits_n ∙ ap (λ k. breaks_after k (body ++ rest)) is_n ∙ breaks-skip body rest
 
 -- one open frame and a closed gate
-module _ (body : List ℕ) (some : 1 ≤ length body) (most : length body ≤ MAX_BODY) (more : List ℕ) where
+module _ (body : List ℕ) (some : 1 ≤ length body) (most : length body ≤ max_body) (more : List ℕ) where
   bodies-one : bodies_after 0 (1 ∷ (packed body ++ 0 ∷ more)) ≡ body ∷ []
   bodies-one = bodies-front body some most (0 ∷ more) (omega arith) ∙ ap (λ l. body ∷ l) (bodies-closed 0 more refl)
 
@@ -111,7 +111,7 @@ module _ (file : List ℕ) (place : ℕ) (rests : IsAtRest file place) where
   closed_as_before g tail is = record { bodies = closed_bodies g tail is; whole = let rest = closed_rests g tail is in rest.whole }
 
   -- a frame behind an open gate
-  module _ (body : List ℕ) (some : 1 ≤ length body) (most : length body ≤ MAX_BODY) (more : List ℕ) where
+  module _ (body : List ℕ) (some : 1 ≤ length body) (most : length body ≤ max_body) (more : List ℕ) where
     pub open_rests : IsAtRest (front ++ 1 ∷ (packed body ++ 0 ∷ more)) (place + (5 + length body))
     open_rests = record {
       whole = cut_breaks 1 (packed body ++ 0 ∷ more) ∙ breaks-one body some most more;

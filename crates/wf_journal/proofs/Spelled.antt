@@ -4,7 +4,7 @@ use Rattle.std.proofs.lemmas.Bool.{and_parts}
 use Rattle.std.proofs.lemmas.List.Elements.{All-nil, All-head, All-tail, All-cons}
 use Rattle.std.proofs.lemmas.Nat.{be_bytes_4}
 use Rattle.std.specs.Int.{w32, to_be_bytes}
-use Rattle.wf_model.specs.declared.limits.TheConstants.{MAX_BODY}
+use Rattle.wf_model.specs.Limits.{max_body}
 use Rattle.wf_journal.specs.declared.frame.TheConstants.{OPEN}
 use Rattle.wf_journal.specs.Frames.{number_of, packed, fits, bodies_after, end_after, breaks_after, bodies_of, end_of, is_broken, IsAtRest}
 use Rattle.wf_journal.specs.Laws.{IsBody, frame_of, frames_of, AreBytes}
@@ -57,7 +57,7 @@ is_body : (n : ℕ) (rest : List ℕ) → fits n rest ≡ true → IsBody (take 
 is_body n rest fit =
     let len = taken_length n rest fit in
     let low : 1 ≤ n = let test = (and_parts (nat_le 1 n) _ fit).0 in search (rules, test) in
-    let high : n ≤ MAX_BODY = let test = (and_parts (nat_le n MAX_BODY) _ (and_parts (nat_le 1 n) _ fit).1).0 in search (rules, test) in
+    let high : n ≤ max_body = let test = (and_parts (nat_le n max_body) _ (and_parts (nat_le 1 n) _ fit).1).0 in search (rules, test) in
     record { some = omega (arith, len, low); most = omega (arith, len, high) }
 
 are_bodies : (skip : ℕ) (file : List ℕ) → All IsBody (bodies_after skip file)

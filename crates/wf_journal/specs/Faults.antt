@@ -1,6 +1,6 @@
 -- When a journal refuses.
 use Rattle.std.specs.Prelude.{ℕ, ◌+◌, ◌==◌, ◌||◌, Bool, nat_lt, if◌then◌else◌, Option, Some, None}
-use Rattle.wf_model.specs.declared.limits.TheConstants.{MAX_BODY, MAX_JOURNAL}
+use Rattle.wf_model.specs.Limits.{max_body, max_journal}
 use Rattle.wf_disk.specs.declared.disk.WriteRefused.{WriteRefused}
 use Rattle.wf_disk.specs.declared.disk.WriteRefused.TheVariants as write
 use Rattle.wf_journal.specs.declared.fault.StartFault.{StartFault}
@@ -17,4 +17,4 @@ start_fault write.NoMemory = start.NoMemory
 -- bytes, and behind it a gate
 unfoldable pub refusal_of : Bool → ℕ → ℕ → Option AppendFault
 refusal_of failed place n =
-    if failed then Some Reopen else if (n == 0) || nat_lt MAX_BODY n then Some TooLong else if nat_lt MAX_JOURNAL (place + n + 6) then Some Full else None
+    if failed then Some Reopen else if (n == 0) || nat_lt max_body n then Some TooLong else if nat_lt max_journal (place + n + 6) then Some Full else None

@@ -1,13 +1,13 @@
 -- A journal's bytes in the words of the format.
 use Rattle.std.specs.Prelude.{ℕ, ◌≤◌, ◌<◌, List, ◌∷◌, length, flat_map, All}
-use Rattle.wf_model.specs.declared.limits.TheConstants.{MAX_BODY}
+use Rattle.wf_model.specs.Limits.{max_body}
 use Rattle.wf_journal.specs.declared.frame.TheConstants.{OPEN}
 use Rattle.wf_journal.specs.Frames.{packed}
 
--- what may be a body: 1 to MAX_BODY bytes
+-- what may be a body: 1 to max_body bytes
 pub record IsBody (body : List ℕ) : Type 0 where
   pub some : 1 ≤ length body
-  pub most : length body ≤ MAX_BODY
+  pub most : length body ≤ max_body
 
 -- an open gate, the length and the body
 abbrev pub frame_of : List ℕ → List ℕ

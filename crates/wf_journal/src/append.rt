@@ -1,7 +1,7 @@
 //! The four strokes of an append.
 ghost use Rattle.std.specs.Prelude.{◌≡◌, ◌+◌, ◌≤◌, ◌<◌, ◌∷◌, [], ℕ, List, Some, OnOk, IsOk, IsErrOf, is_some, length, vec_capacity};
 ghost use Rattle.wf_disk.specs.Disk.{HasCause, IsSafeFor, LeavesOnly};
-ghost use Rattle.wf_model.specs.declared.limits.TheConstants.{MAX_BODY, MAX_JOURNAL};
+ghost use Rattle.wf_model.specs.Limits.{max_body, max_journal};
 ghost use Rattle.wf_journal.specs.declared.frame.TheConstants.{HEADER};
 ghost use Rattle.wf_journal.specs.Frames.{bodies_of, IsAsBefore, IsBeforeOrAfter};
 ghost use Rattle.wf_journal.specs.Journal.{IsSettled, IsLeft};
@@ -17,8 +17,8 @@ pub fn put<D: Disk>(
     frame: &mut Vec<u8>,
 ) -> Result<(), WriteRefused>
     requires some { 1 ≤ length body.now }
-    requires most { length body.now ≤ MAX_BODY }
-    requires fits { place + length body.now + 6 ≤ MAX_JOURNAL }
+    requires most { length body.now ≤ max_body }
+    requires fits { place + length body.now + 6 ≤ max_journal }
     requires settled { IsSettled (D.told disk.old) place }
 
     ensures ok { OnOk result (IsLeft (D.told disk.old) (D.told disk.new) (place + (HEADER + length body.now)) (body.now ∷ [])) }

@@ -3,6 +3,7 @@ ghost use Rattle.std.specs.Prelude.{◌≡◌, ◌+◌, ◌≤◌, ◌++◌, ◌
 ghost use Rattle.wf_journal.specs.declared.frame.TheConstants.{OPEN, CLOSED, HEADER};
 ghost use Rattle.wf_journal.specs.Frames.{packed};
 ghost use Rattle.wf_journal.specs.StepAt.{fits_in};
+ghost use Rattle.wf_model.specs.Limits.{max_body};
 
 use std::alloc::AllocError;
 use wf_model::limits::MAX_BODY;
@@ -19,7 +20,7 @@ pub const HEADER: u64 = 5;
 /// Makes of `frame` what stands behind a frame's gate: the length, the body and a closed gate. Takes memory where `frame`
 /// has no room for `HEADER` bytes and the body. In linear time in the body.
 pub fn pack(frame: &mut Vec<u8>, body: &[u8]) -> Result<(), AllocError>
-    requires { length body.now ≤ MAX_BODY }
+    requires { length body.now ≤ max_body }
     ensures ok { OnOk result (frame.new.items ≡ packed body.now ++ CLOSED ∷ []) }
     ensures succeeds { HEADER + length body.now ≤ vec_capacity frame.old → IsOk result }
     ensures capacity { vec_capacity frame.old ≤ vec_capacity frame.new }

@@ -5,7 +5,7 @@ use Rattle.std.proofs.lemmas.Bool.{cases_Bool}
 use Rattle.std.proofs.lemmas.List.Sums.{take_while-cons}
 use Rattle.std.proofs.lemmas.List.{length-take-le, take-append-drop}
 use Rattle.std.proofs.lemmas.Bool.Decides.{nat_tests}
-use Rattle.wf_model.specs.declared.limits.TheConstants.{MAX_TOKENS}
+use Rattle.wf_model.specs.Limits.{max_tokens}
 use Rattle.wf_model.specs.Names.{is_letter, is_digit, is_word_char}
 use Rattle.wf_model.specs.Txt.{is_text_char}
 use Rattle.wf_lex.specs.declared.token.TokenKind.{TokenKind}
@@ -107,7 +107,7 @@ at_token : (len count at b : ℕ) (bs : List ℕ) (ts : List Token) (found : Opt
     → lex_token len count b bs found (λ n. lex len (count + 1) n false bs) ≡ Ok ts → AreSlices false at (b ∷ bs) ts
 at_token len count at b bs ts None here token behind e = cc e
 at_token len count at b bs ts (Some (kind, n)) here token behind e =
-    elim (cases_Bool (count == MAX_TOKENS)) [
+    elim (cases_Bool (count == max_tokens)) [
       | inl full ↦ cc (rw full at e)
       | inr few ↦
           let split = with_first_ok (record { kind = kind; start = place len (b ∷ bs); end = place len (b ∷ bs) + 1 + n } ∷ []) ts (lex len (count + 1) n false bs) (rw few at e) in

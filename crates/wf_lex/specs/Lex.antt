@@ -1,6 +1,6 @@
 -- The tokens of a text, or its first fault.
 use Rattle.std.specs.Prelude.{ℕ, zero, suc, ◌+◌, ◌-◌, Bool, true, false, not, ◌&&◌, ◌||◌, ◌==◌, if◌then◌else◌, List, [], ◌∷◌, ◌++◌, length, take_while, slice_index, Option, Some, None, Result, Ok, Err}
-use Rattle.wf_model.specs.declared.limits.TheConstants.{MAX_TOKENS}
+use Rattle.wf_model.specs.Limits.{max_tokens}
 use Rattle.wf_model.specs.Names.{is_letter, is_digit, is_word_char}
 use Rattle.wf_model.specs.Txt.{is_text_char}
 use Rattle.wf_lex.specs.declared.token.TokenKind.{TokenKind}
@@ -57,7 +57,7 @@ with_first found (Err e) = Err e
 abbrev pub lex_token : (len count : ℕ) → ℕ → List ℕ → Option (TokenKind × ℕ) → (ℕ → Result (List Token) LexFault) → Result (List Token) LexFault
 lex_token len count b bs None more = Err (BadByte (place len (b ∷ bs)))
 lex_token len count b bs (Some t) more =
-    if count == MAX_TOKENS then Err (TooManyTokens (place len (b ∷ bs)))
+    if count == max_tokens then Err (TooManyTokens (place len (b ∷ bs)))
     else with_first (record { kind = t.0; start = place len (b ∷ bs); end = place len (b ∷ bs) + 1 + t.1 } ∷ []) (more t.1)
 
 -- The tokens of a text of length len from here on: after so many tokens, with so many bytes left of the token that was begun,

@@ -4,7 +4,7 @@ use Rattle.std.specs.List.{list_all, list_any, enumerate_from}
 use Rattle.std.specs.Option.{option_map_or}
 use Rattle.std.specs.Str.{bytes_eq}
 use lib.Chars.{codes}
-use Rattle.wf_model.specs.declared.limits.TheConstants.{MAX_UNITS, MAX_EVENTS, MAX_VARS, MAX_ACTS, MAX_STATES, MAX_TRANSITIONS, MAX_ACTIONS, MAX_OUTPUTS, MAX_NODES, MAX_DEPTH}
+use Rattle.wf_model.specs.Limits.{max_units, max_events, max_vars, max_acts, max_states, max_transitions, max_actions, max_outputs, max_nodes, max_depth}
 use Rattle.wf_model.specs.declared.ids.VarId.{VarId}
 use Rattle.wf_model.specs.declared.ids.UnitId.{UnitId}
 use Rattle.wf_model.specs.declared.ids.StateId.{StateId}
@@ -47,20 +47,20 @@ nodes _ = 1
 -- LIMITS
 
 abbrev pub is_small_action : Action → Bool
-is_small_action (act.Assign x value) = nat_le (nodes value) MAX_NODES
+is_small_action (act.Assign x value) = nat_le (nodes value) max_nodes
 is_small_action (act.Raise event) = true
 is_small_action (act.Start a) = true
 
 abbrev pub is_small_transition : Transition → Bool
 is_small_transition t =
-    all_of (λ guard. nat_le (nodes guard) MAX_NODES) t.guard && nat_le (length t.actions) MAX_ACTIONS && list_all is_small_action t.actions
+    all_of (λ guard. nat_le (nodes guard) max_nodes) t.guard && nat_le (length t.actions) max_actions && list_all is_small_action t.actions
 
 -- each quantity is within its limit
 unfoldable pub is_small : Chart → Bool
 is_small c =
-    nat_le (length c.units) MAX_UNITS && nat_le (length c.events) MAX_EVENTS && nat_le (length c.vars) MAX_VARS
-    && nat_le (length c.acts) MAX_ACTS && nat_le (length c.states) MAX_STATES && nat_le (length c.transitions) MAX_TRANSITIONS
-    && list_all (λ a. nat_le (length a.outputs) MAX_OUTPUTS) c.acts && list_all is_small_transition c.transitions
+    nat_le (length c.units) max_units && nat_le (length c.events) max_events && nat_le (length c.vars) max_vars
+    && nat_le (length c.acts) max_acts && nat_le (length c.states) max_states && nat_le (length c.transitions) max_transitions
+    && list_all (λ a. nat_le (length a.outputs) max_outputs) c.acts && list_all is_small_transition c.transitions
 
 -- NUMBERS
 
@@ -138,7 +138,7 @@ suits kinds.And has = has
 
 -- no state is too deep, Or and And states have children, and basic states have none
 abbrev pub is_shaped_state : Chart → ℕ → State → Bool
-is_shaped_state c s state = nat_lt (length (ancestors c s)) MAX_DEPTH && suits state.kind (has_child c s)
+is_shaped_state c s state = nat_lt (length (ancestors c s)) max_depth && suits state.kind (has_child c s)
 
 -- the root is an Or state
 unfoldable pub is_shaped : Chart → Bool

@@ -1,3 +1,4 @@
+pub mod Limits
 pub mod Txt
 pub mod TxtCells
 pub mod Names

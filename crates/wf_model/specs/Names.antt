@@ -3,7 +3,7 @@ use Rattle.std.specs.Prelude.{ℕ, List, [], ◌∷◌, ◌==◌, ◌||◌, ◌&
 use Rattle.std.specs.List.{list_all}
 use Rattle.std.specs.Str.{bytes_eq}
 use lib.Chars.{codes}
-use Rattle.wf_model.specs.declared.limits.TheConstants.{MAX_NAME}
+use Rattle.wf_model.specs.Limits.{max_name}
 
 -- A to Z and a to z
 abbrev pub is_letter : ℕ → Bool
@@ -51,4 +51,4 @@ is_reserved w = is_declaring w || is_moving w || is_valued w
 
 -- a word of at most 32 bytes that isn't reserved
 unfoldable pub is_name : List ℕ → Bool
-is_name bytes = nat_le (length bytes) MAX_NAME && is_word bytes && not (is_reserved bytes)
+is_name bytes = nat_le (length bytes) max_name && is_word bytes && not (is_reserved bytes)

@@ -1,4 +1,6 @@
-//! How large things may be. Each limit stands here and nowhere else.
+//! How large things may be, for the program. The definitions have the same numbers, which `limits_are_numbers` says.
+ghost use Rattle.std.specs.Prelude.{◌≡◌};
+ghost use Rattle.wf_model.specs.Limits.{max_units, max_events, max_vars, max_acts, max_states, max_transitions, max_actions, max_outputs, max_nodes, max_depth, max_name, max_text, max_int, max_input, max_tokens, max_open, max_lines, max_report, max_steps, max_fired, max_starts, max_sealed, max_body, max_journal};
 
 /// Units of a chart.
 pub const MAX_UNITS: usize = 8;
@@ -71,3 +73,15 @@ pub const MAX_BODY: u64 = 1_048_576;
 
 /// Bytes of a journal's file: 512 MiB.
 pub const MAX_JOURNAL: u64 = 536_870_912;
+
+/// Each limit of the program is the number that the definitions have.
+pub fn limits_are_numbers()
+    ensures parts { (MAX_UNITS ≡ max_units) × (MAX_EVENTS ≡ max_events) × (MAX_VARS ≡ max_vars) × (MAX_ACTS ≡ max_acts) }
+    ensures tree { (MAX_STATES ≡ max_states) × (MAX_DEPTH ≡ max_depth) × (MAX_TRANSITIONS ≡ max_transitions) }
+    ensures inside { (MAX_ACTIONS ≡ max_actions) × (MAX_OUTPUTS ≡ max_outputs) × (MAX_NODES ≡ max_nodes) }
+    ensures atoms { (MAX_NAME ≡ max_name) × (MAX_TEXT ≡ max_text) × (MAX_INT ≡ max_int) }
+    ensures input { (MAX_INPUT ≡ max_input) × (MAX_TOKENS ≡ max_tokens) × (MAX_OPEN ≡ max_open) × (MAX_LINES ≡ max_lines) }
+    ensures run { (MAX_REPORT ≡ max_report) × (MAX_STEPS ≡ max_steps) × (MAX_FIRED ≡ max_fired) × (MAX_STARTS ≡ max_starts) × (MAX_SEALED ≡ max_sealed) }
+    ensures journal { (MAX_BODY ≡ max_body) × (MAX_JOURNAL ≡ max_journal) }
+{
+}

@@ -5,7 +5,7 @@ use Rattle.std.proofs.lemmas.Grind.{flat_map-append}
 use Rattle.std.proofs.lemmas.List.Elements.{All-map, All-filter}
 use Rattle.std.proofs.lemmas.List.FromFn.{length-enumerate_from, get_or-enumerate_from}
 use Rattle.std.specs.List.{range_with_len, enumerate_from}
-use Rattle.wf_model.specs.declared.limits.TheConstants.{MAX_UNITS}
+use Rattle.wf_model.specs.Limits.{max_units}
 use Rattle.wf_model.specs.declared.chart.Chart.{Chart}
 use Rattle.wf_model.specs.declared.chart.State.{State}
 use Rattle.wf_model.specs.declared.part.KnownState.{KnownState}
@@ -18,7 +18,7 @@ use Rattle.wf_parts.specs.Parts.{part_of, known_state, numbered}
 use Rattle.wf_partition.specs.SplitText.{bit, AreWatched}
 
 -- an accepted chart has few units
-pub few_units : (chart : Chart) → IsAccepted chart → length chart.units ≤ MAX_UNITS
+pub few_units : (chart : Chart) → IsAccepted chart → length chart.units ≤ max_units
 unfolding is_accepted is_small
 few_units chart h = grind (arith, nat_tests)
 

@@ -1,6 +1,6 @@
 -- The grammar of expressions, a rule for each of its lines. A token that makes a node is counted before it is taken.
 use Rattle.std.specs.Prelude.{ℕ, zero, suc, ◌==◌, Bool, true, false, if◌then◌else◌, length, Option, Some, None, Ok}
-use Rattle.wf_model.specs.declared.limits.TheConstants.{MAX_OPEN}
+use Rattle.wf_model.specs.Limits.{max_open}
 use Rattle.wf_model.specs.declared.ids.ActId.{ActId}
 use Rattle.wf_model.specs.declared.expr.Op.{Op}
 use Rattle.wf_model.specs.declared.expr.Expr.{Expr}
@@ -172,4 +172,4 @@ parens (suc depth) = do
 
 -- expr = conj { or conj }: each expression counts its nodes and its open parentheses from 0
 unfoldable pub expr : Parser Expr
-expr = changed without_nodes >> disj MAX_OPEN (parens MAX_OPEN)
+expr = changed without_nodes >> disj max_open (parens max_open)

@@ -29,7 +29,7 @@ use Rattle.wf_model.specs.declared.expr.Op.{Op}
 use Rattle.wf_model.specs.declared.expr.Op.TheVariants as o
 use Rattle.wf_model.specs.declared.expr.Expr.{Expr, end_of-Expr, more_of-Expr}
 use Rattle.wf_model.specs.declared.expr.Expr.TheVariants as e
-use Rattle.wf_model.specs.declared.limits.TheConstants.{MAX_DEPTH}
+use Rattle.wf_model.specs.Limits.{max_depth}
 use Rattle.wf_model.specs.Names.{is_letter, is_word_char, is_word, is_name}
 use Rattle.wf_model.specs.Txt.{is_text_char, is_text}
 use Rattle.wf_model.specs.Tree.{children, list_from}
@@ -402,7 +402,7 @@ whole chart named h =
     let events = flat_map (event_line chart) (drop 1 chart.events) in
     let vars = flat_map var_line chart.vars in
     let acts = flat_map (activity_line chart) chart.acts in
-    let states = state_text chart MAX_DEPTH 0 0 in
+    let states = state_text chart max_depth 0 0 in
     let transitions = flat_map (transition_line chart) chart.transitions in
     three (chart_line chart ++ units ++ events ++ vars ++ acts) states transitions
     (five (chart_line chart) units events vars acts (chart_line_in chart named)
@@ -411,7 +411,7 @@ whole chart named h =
     (each true (λ x. is_name x.name && is_text_value x.first) var_line chart.vars (all_both (λ x. is_name x.name) (λ x. is_text_value x.first) chart.vars named.vars texts.0)
     (λ x p. let q = both_true (is_name x.name) (is_text_value x.first) p in var_line_in x q.0 q.1))
     (each true (λ x. is_name x.name) (activity_line chart) chart.acts named.acts (activity_line_in chart named)))
-    (state_in chart named MAX_DEPTH 0 0)
+    (state_in chart named max_depth 0 0)
     (each true moves_by_texts (transition_line chart) chart.transitions texts.1 (transition_line_in chart named))
 
 pub text_is_lined : TextIsLined

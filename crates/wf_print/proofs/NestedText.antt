@@ -1,7 +1,7 @@
 -- No state lies too deep for the text.
 use Rattle.std.proofs.Common.{◌≡◌, ℕ, zero, suc, ◌+◌, ◌-◌, ◌<◌, ◌==◌, List, [], ◌∷◌, ◌++◌, length, flat_map, slice_get, Some, None, refl, sym, ◌∙◌, ap, ap₂, arith, inl, inr}
 use Rattle.std.proofs.lemmas.Option.{slice_get_past}
-use Rattle.wf_model.specs.declared.limits.TheConstants.{MAX_DEPTH}
+use Rattle.wf_model.specs.Limits.{max_depth}
 use Rattle.wf_model.specs.declared.chart.Chart.{Chart}
 use Rattle.wf_model.specs.declared.chart.State.{State}
 use Rattle.wf_model.specs.Tree.{parent, ancestors, ancestors_by, children}
@@ -41,16 +41,16 @@ same_texts f g [] same = refl
 same_texts f g (k ∷ ks) same = ap₂ (λ (x y : List ℕ). x ++ y) (same k (inl refl)) (same_texts f g ks (λ j m. same j (inr m)))
 
 abbrev at_depth : Chart → ℕ → ℕ → List ℕ
-at_depth chart s d = state_text chart (MAX_DEPTH - d) d s
+at_depth chart s d = state_text chart (max_depth - d) d s
 
 pub states_read : StatesRead
 states_read chart accepted = (
   ap (at_depth chart 0) (sym (depth_root chart)),
   λ s state is.
       let ok = chart_of chart accepted in
-      let within : depth chart s < MAX_DEPTH = ok.few_ancestors s (get_within chart.states s state is) in
+      let within : depth chart s < max_depth = ok.few_ancestors s (get_within chart.states s state is) in
       state_text-some chart (depth chart s) s state within is
       ∙ ap (λ (texts : List ℕ). opening chart (depth chart s) state ++ body (depth chart s) (length (children chart s) == 0) texts)
-      (sym (same_texts (text_from chart) (state_text chart (MAX_DEPTH - (depth chart s + 1)) (depth chart s + 1)) (children chart s)
+      (sym (same_texts (text_from chart) (state_text chart (max_depth - (depth chart s + 1)) (depth chart s + 1)) (children chart s)
       (λ k m. ap (at_depth chart k) (depth_child chart ok k s (mem_child_parent chart s k m))))),
 )

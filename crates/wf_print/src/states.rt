@@ -1,7 +1,7 @@
 //! The nested text of states.
 ghost use Rattle.std.specs.Prelude.{◌≡◌, ◌≤◌, ◌-◌, ◌++◌, ◌∷◌, [], map, slice_set, slice_index_or, IfOk, OnOk};
 ghost use Rattle.wf_model.specs.Tree.{parent, all_states};
-ghost use Rattle.wf_model.specs.declared.limits.TheConstants.{MAX_DEPTH};
+ghost use Rattle.wf_model.specs.Limits.{max_depth};
 ghost use Rattle.wf_print.specs.States as spec;
 
 use crate::declarations::append_place;
@@ -112,8 +112,8 @@ pub fn append_state(
     s: usize,
 ) -> Result<(), NoMemory>
     requires table { children.now ≡ spec.children_of chart.now }
-    requires within { depth ≤ MAX_DEPTH }
-    ensures { OnOk result (text.new ≡ text.old ++ spec.state_text chart.now (MAX_DEPTH - depth) depth s) }
+    requires within { depth ≤ max_depth }
+    ensures { OnOk result (text.new ≡ text.old ++ spec.state_text chart.now (max_depth - depth) depth s) }
 {
     if depth == MAX_DEPTH {
         return Ok(());

@@ -1,7 +1,7 @@
 -- The declarations of a chart are read back.
 use Rattle.std.proofs.Common.{◌≡◌, ℕ, zero, suc, ◌≤◌, true, false, nat_lt, List, [], ◌∷◌, ◌++◌, length, Option, Some, None, Ok, refl, sym, ◌∙◌, ap, arith, append-nil, append_assoc, length-append}
 use lib.Chars.{codes}
-use Rattle.wf_model.specs.declared.limits.TheConstants.{MAX_NAME}
+use Rattle.wf_model.specs.Limits.{max_name}
 use Rattle.wf_model.specs.declared.ids.UnitId.{UnitId}
 use Rattle.wf_model.specs.declared.ids.VarId.{VarId}
 use Rattle.wf_model.specs.declared.chart.Event.{Event}
@@ -87,7 +87,7 @@ no_comma ws = refl
 -- it is a name, and none of those before
 pub record IsNewName (m : Made) (name : List ℕ) : Type 0 where
   pub piece : (word_lexeme name).piece ≡ pieces.Name
-  pub short : length name ≤ MAX_NAME
+  pub short : length name ≤ max_name
   pub new : declared_as m.names name ≡ None
 
 pub naming : (what : Declared) (i : Input) (name : List ℕ) (ws : List Lexeme) (m : Made) → IsNewName m name → At i (word_lexeme name ∷ ws) m → Answers (new_name what i) name ws (with_new m name what)

@@ -3,7 +3,7 @@ use Rattle.std.proofs.Common.{◌≡◌, ℕ, suc, ◌+◌, ◌^◌, ◌<◌, �
 use Rattle.std.specs.Fmt.{decimal}
 use Rattle.std.proofs.lemmas.Bool.Decides.{nat_tests}
 use lib.Chars.{codes}
-use Rattle.wf_model.specs.declared.limits.TheConstants.{MAX_NAME, MAX_TEXT, MAX_INT}
+use Rattle.wf_model.specs.Limits.{max_name, max_text, max_int}
 use Rattle.wf_model.specs.declared.ids.UnitId.{UnitId}
 use Rattle.wf_model.specs.declared.ids.EventId.{EventId}
 use Rattle.wf_model.specs.declared.ids.VarId.{VarId}
@@ -40,7 +40,7 @@ use Rattle.wf_readback.proofs.Steps.{Made, made_of, At, Answers, one_token, next
 
 -- ---- new names
 
-new_name_here : (i : Input) (t : Token) (rest : List Token) (at count : ℕ) (what : Declared) → Is pieces.Name (lexeme_of i.text t) → length (lexeme_of i.text t).bytes ≤ MAX_NAME
+new_name_here : (i : Input) (t : Token) (rest : List Token) (at count : ℕ) (what : Declared) → Is pieces.Name (lexeme_of i.text t) → length (lexeme_of i.text t).bytes ≤ max_name
     → declared_as i.names (lexeme_of i.text t).bytes ≡ None
     → new_name what (here i (t ∷ rest) at count) ≡ Ok ((lexeme_of i.text t).bytes, next (with_name what (here i (t ∷ rest) at count)))
 unfolding new_name
@@ -59,13 +59,13 @@ named_next i t rest w ws m what same left made =
     let bytes : spelling (here i (t ∷ rest) i.at i.nodes) ≡ w.bytes = spelling_here i t rest i.at i.nodes ∙ ap (λ (l : Lexeme). l.bytes) same in
     record { left = left; made = ap₂ (λ (n : Made) (b : List ℕ). with_new n b what) made bytes }
 
-pub new_name_step : (what : Declared) (i : Input) (w : Lexeme) (ws : List Lexeme) (m : Made) → At i (w ∷ ws) m → w.piece ≡ pieces.Name → length w.bytes ≤ MAX_NAME → declared_as m.names w.bytes ≡ None
+pub new_name_step : (what : Declared) (i : Input) (w : Lexeme) (ws : List Lexeme) (m : Made) → At i (w ∷ ws) m → w.piece ≡ pieces.Name → length w.bytes ≤ max_name → declared_as m.names w.bytes ≡ None
     → Answers (new_name what i) w.bytes ws (with_new m w.bytes what)
 new_name_step what i w ws m at is short new =
     let h = headed (lexeme_of i.text) w ws i.left at.left in
     let same = sym h.token_is in
     let t_is : Is pieces.Name (lexeme_of i.text h.token) = subst (λ (l : Lexeme). l.piece ≡ pieces.Name) same is in
-    let t_short : length (lexeme_of i.text h.token).bytes ≤ MAX_NAME = subst (λ (l : Lexeme). length l.bytes ≤ MAX_NAME) same short in
+    let t_short : length (lexeme_of i.text h.token).bytes ≤ max_name = subst (λ (l : Lexeme). length l.bytes ≤ max_name) same short in
     let t_new : declared_as i.names (lexeme_of i.text h.token).bytes ≡ None = ap₂ (λ (n : Made) (l : Lexeme). declared_as n.names l.bytes) at.made h.token_is ∙ new in
     let behind = next (with_name what (here i (h.token ∷ h.rest) i.at i.nodes)) in
     record {
@@ -173,7 +173,7 @@ int_step most n i ws m fits small at =
     one_token i w ws m (int_up_to most) n at
     (λ t rest same. int_here most n i t rest i.at i.nodes (ap (λ (l : Lexeme). l.piece) same ∙ number_is (decimal n)) (ap (λ (l : Lexeme). number_up_to most l.bytes) same ∙ int_reads most n fits small))
 
-text_step : (t : List ℕ) (i : Input) (ws : List Lexeme) (m : Made) → (is_text t && nat_le (length t) MAX_TEXT) ≡ true → At i (lexeme kinds.Text (quoted t) ∷ ws) m → Answers (input.text i) t ws m
+text_step : (t : List ℕ) (i : Input) (ws : List Lexeme) (m : Made) → (is_text t && nat_le (length t) max_text) ≡ true → At i (lexeme kinds.Text (quoted t) ∷ ws) m → Answers (input.text i) t ws m
 text_step t i ws m h at =
     one_token i (lexeme kinds.Text (quoted t)) ws m input.text t at
     (λ token rest same. text_here i token rest i.at i.nodes t (ap (λ (l : Lexeme). l.piece) same ∙ characters_is (quoted t)) (ap (λ (l : Lexeme). short_text l.bytes) same ∙ text_is_read t h))
@@ -184,11 +184,11 @@ literal_step (v.Bool true) i ws m h at = record { behind = next i; is = rw (piec
 literal_step (v.Bool false) i ws m h at = record { behind = next i; is = rw (piece_at i _ m at ∙ ap Some false_is) refl; at = next_at i _ ws m at }
 literal_step (v.Int (pos n)) i ws m h at =
     let small = below n (2 ^ 63) h in
-    let a = int_step MAX_INT n i ws m (omega (arith, small)) (omega (arith, small)) at in
+    let a = int_step max_int n i ws m (omega (arith, small)) (omega (arith, small)) at in
     record { behind = a.behind; is = rw (piece_at i _ m at ∙ ap Some (number_is (decimal n))) (rw a.is refl); at = a.at }
 literal_step (v.Int (negsuc n)) i ws m h at =
     let small = below n (2 ^ 63) h in
-    let a = int_step (MAX_INT + 1) (suc n) (next i) ws m (omega (arith, small)) (omega (arith, small)) (next_at i (lexeme kinds.Sign (codes "-")) (lexeme kinds.Int (decimal (suc n)) ∷ ws) m at) in
+    let a = int_step (max_int + 1) (suc n) (next i) ws m (omega (arith, small)) (omega (arith, small)) (next_at i (lexeme kinds.Sign (codes "-")) (lexeme kinds.Int (decimal (suc n)) ∷ ws) m at) in
     record { behind = a.behind; is = rw (piece_at i _ m at ∙ ap Some minus_is) (rw a.is refl); at = a.at }
 literal_step (v.Text t) i ws m h at =
     let a = text_step t i ws m h at in

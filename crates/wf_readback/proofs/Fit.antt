@@ -1,7 +1,7 @@
 -- What an accepted chart has can be read.
 use Rattle.std.proofs.Common.{◌≡◌, ◌&&◌, true, nat_lt, nat_le, List, [], ◌∷◌, length, Option, Some, None, refl, arith}
 use Rattle.std.specs.List.{list_all}
-use Rattle.wf_model.specs.declared.limits.TheConstants.{MAX_NODES, MAX_ACTIONS}
+use Rattle.wf_model.specs.Limits.{max_nodes, max_actions}
 use Rattle.wf_model.specs.declared.ids.EventId.{EventId}
 use Rattle.wf_model.specs.declared.expr.Expr.{Expr}
 use Rattle.wf_model.specs.declared.chart.Action.{Action}
@@ -34,7 +34,7 @@ module _ (chart : Chart) where
   action_fit : (x : Action) → is_known_action chart x ≡ true → is_short_action x ≡ true → is_small_action x ≡ true → IsFitAction chart x
   action_fit (act.Assign x value) knows short small =
       let p = and_both (nat_lt x.0 (length chart.vars)) (is_known_expr chart value) knows in
-      (p.0, (p.1, short, fits_is (nodes value) MAX_NODES small))
+      (p.0, (p.1, short, fits_is (nodes value) max_nodes small))
   action_fit (act.Raise event) knows short small = knows
   action_fit (act.Start a) knows short small = knows
 
@@ -46,9 +46,9 @@ module _ (chart : Chart) where
       let c = and_both (is_small_action x) (list_all is_small_action xs) small in
       (action_fit x a.0 b.0 c.0, actions_fit xs a.1 b.1 c.1)
 
-  guard_fit : (guard : Option Expr) → all_of (is_known_expr chart) guard ≡ true → all_of has_short_literals guard ≡ true → all_of (λ x. nat_le (nodes x) MAX_NODES) guard ≡ true → IsFitGuard chart guard
+  guard_fit : (guard : Option Expr) → all_of (is_known_expr chart) guard ≡ true → all_of has_short_literals guard ≡ true → all_of (λ x. nat_le (nodes x) max_nodes) guard ≡ true → IsFitGuard chart guard
   guard_fit None knows short small = tt
-  guard_fit (Some x) knows short small = (knows, short, fits_is (nodes x) MAX_NODES small)
+  guard_fit (Some x) knows short small = (knows, short, fits_is (nodes x) max_nodes small)
 
   cause_known : (event : Option EventId) → all_of (λ e. nat_lt e.0 (length chart.events)) event ≡ true → IsKnownCause chart event
   cause_known None knows = tt
@@ -66,8 +66,8 @@ module _ (chart : Chart) where
       let c = and_both (source && target) event b.0 in
       let d = and_both source target c.0 in
       let s = and_both (all_of has_short_literals t.guard) (list_all is_short_action t.actions) short in
-      let n = and_both (all_of (λ x. nat_le (nodes x) MAX_NODES) t.guard && nat_le (length t.actions) MAX_ACTIONS) (list_all is_small_action t.actions) small in
-      let k = and_both (all_of (λ x. nat_le (nodes x) MAX_NODES) t.guard) (nat_le (length t.actions) MAX_ACTIONS) n.0 in
+      let n = and_both (all_of (λ x. nat_le (nodes x) max_nodes) t.guard && nat_le (length t.actions) max_actions) (list_all is_small_action t.actions) small in
+      let k = and_both (all_of (λ x. nat_le (nodes x) max_nodes) t.guard) (nat_le (length t.actions) max_actions) n.0 in
       record {
         source = d.0;
         target = d.1;

@@ -2,7 +2,7 @@
 use Rattle.std.proofs.Common.{◌≡◌, ℕ, zero, suc, ◌+◌, ◌-◌, ◌<◌, ◌≤◌, ◌==◌, ◌⊎◌, cond, Bool, true, false, List, [], ◌∷◌, ◌++◌, length, flat_map, filter, Option, Some, refl, sym, ◌∙◌, ap, ap₂, subst, arith, inl, inr, length-append}
 use Rattle.std.specs.List.{range_with_len}
 use Rattle.std.proofs.lemmas.Bool.{cases_Bool, eqb-true, eq-eqb}
-use Rattle.wf_model.specs.declared.limits.TheConstants.{MAX_DEPTH}
+use Rattle.wf_model.specs.Limits.{max_depth}
 use Rattle.wf_model.specs.declared.chart.Chart.{Chart}
 use Rattle.wf_model.specs.Tree.{parent, children, is_child_of, is_above, ancestors_by}
 use Rattle.wf_semantics.proofs.Bools.{or_cases, or_left, or_right}
@@ -250,7 +250,7 @@ module _ (chart : Chart) (ok : IsChart chart) where
   unfolding states_from
   states_are levels s = refl
 
-  tree : (levels s : ℕ) → s < n → levels + depth chart s ≡ MAX_DEPTH → IsTree levels s
+  tree : (levels s : ℕ) → s < n → levels + depth chart s ≡ max_depth → IsTree levels s
   tree zero s within deep = absurd (omega (arith, ok.few_ancestors s within, deep))
   tree (suc levels) s within deep =
       let r = trees levels s (λ c there child. tree levels c there (omega (arith, deep, depth_child chart ok c s child))) (n - suc s) (suc s) (n - suc s) (omega arith) (omega arith) (omega arith) (first_child s) in
@@ -272,7 +272,7 @@ module _ (chart : Chart) (ok : IsChart chart) where
 
   pub in_order : IsInOrder chart
   in_order =
-      let t = tree MAX_DEPTH 0 ok.some_state (omega (arith, depth_root)) in (
+      let t = tree max_depth 0 ok.some_state (omega (arith, depth_root)) in (
         t.run,
         elim (lt_or_ge t.end n) [
           | inl early ↦ absurd (t.out early (root_above chart ok t.end t.low early))

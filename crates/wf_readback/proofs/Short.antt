@@ -22,7 +22,7 @@ use Rattle.wf_model.specs.Sorts.{alike}
 use Rattle.wf_model.specs.Accepted.{IsAccepted, is_accepted, is_sorted, is_sorted_transition, is_sorted_action, has_sort, gives, all_of, is_known_expr, is_known_action, is_known_transition}
 use Rattle.wf_semantics.proofs.Bools.{and_both, and_true}
 use Rattle.wf_semantics.proofs.Children.{item_at}
-use Rattle.wf_model.specs.declared.limits.TheConstants.{MAX_INT}
+use Rattle.wf_model.specs.Limits.{max_int}
 use Rattle.wf_canon.specs.Expressions.{has_short_literals}
 use Rattle.wf_canon.specs.Charts.{is_short_value, is_short_action, is_short_transition, is_short}
 use Rattle.wf_canon.proofs.Named.{below}
@@ -50,7 +50,7 @@ of_both f (Ok s) (Ok t) h = record { left = record { sort = s; is = refl }; righ
 of_both f (Ok s) (Err d) h = let is = h.is in cc
 of_both f (Err d) b h = let is = h.is in cc
 
-int_sort : (n : ℕ) → HasSort (cond (nat_lt n (2 ^ 63)) (Ok sorts.Int) (Err Mismatch)) → nat_le n MAX_INT ≡ true
+int_sort : (n : ℕ) → HasSort (cond (nat_lt n (2 ^ 63)) (Ok sorts.Int) (Err Mismatch)) → nat_le n max_int ≡ true
 int_sort n h =
     elim (cases_Bool (nat_lt n (2 ^ 63))) [
       | inl small ↦ grind (arith, nat_tests)

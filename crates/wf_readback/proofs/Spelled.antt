@@ -1,7 +1,7 @@
 -- The canonical text of a chart is in the grammar.
 use Rattle.std.proofs.Common.{◌≡◌, ◌≤◌, List, [], ◌∷◌, ◌++◌, length, sym, ◌∙◌, ap, subst, append-nil}
 use lib.Chars.{codes}
-use Rattle.wf_model.specs.declared.limits.TheConstants.{MAX_TOKENS}
+use Rattle.wf_model.specs.Limits.{max_tokens}
 use Rattle.wf_model.specs.declared.chart.State.{State}
 use Rattle.wf_model.specs.declared.chart.Chart.{Chart}
 use Rattle.wf_model.specs.Accepted.{IsAccepted}
@@ -37,7 +37,7 @@ meant_is_text_of text chart means = let r = chart_read text chart means in (r.0,
 pub text_of_few_is_meant : TextOfFewIsMeant
 text_of_few_is_meant text tokens chart cut few of =
     let same : tokens ≡ of.0 = cuts_are_equal text tokens of.0 cut of.1 in
-    let size : length of.0 ≤ MAX_TOKENS = subst (λ (ts : List Token). length ts ≤ MAX_TOKENS) same few in
+    let size : length of.0 ≤ max_tokens = subst (λ (ts : List Token). length ts ≤ max_tokens) same few in
     chart_spelled text of.0 chart (answered text of.0 size of.1) of.2
 
 first_scope_is : (i : Input) → made_of i ≡ start i → i.states ≡ [] → scope_of i ≡ first_scope

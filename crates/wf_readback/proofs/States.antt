@@ -4,7 +4,7 @@ use Rattle.std.specs.List.{list_all}
 use Rattle.std.specs.Option.{option_map, option_and_then}
 use Rattle.std.proofs.lemmas.Bool.Decides.{nat_tests}
 use lib.Chars.{codes}
-use Rattle.wf_model.specs.declared.limits.TheConstants.{MAX_DEPTH}
+use Rattle.wf_model.specs.Limits.{max_depth}
 use Rattle.wf_model.specs.declared.ids.StateId.{StateId}
 use Rattle.wf_model.specs.declared.chart.Kind.{Kind}
 use Rattle.wf_model.specs.declared.chart.Kind.TheVariants as kinds
@@ -344,12 +344,12 @@ module _ (chart : Chart) (accepted : IsAccepted chart) (new : AreNewIn (λ (y : 
       record { behind = a.behind; is = ap (λ (p : Piece). text.body_by (text.opened (suc braces) (record { 0 = s })) (Some p) i) open_is ∙ a.is; at = a.at }
 
   -- a state, and all below it
-  pub state_step : (levels d braces s : ℕ) (state : State) (parent : Option StateId) (i : Input) (ws : List Lexeme) → levels + d ≡ MAX_DEPTH → depth chart s ≡ d → levels ≤ braces
+  pub state_step : (levels d braces s : ℕ) (state : State) (parent : Option StateId) (i : Input) (ws : List Lexeme) → levels + d ≡ max_depth → depth chart s ≡ d → levels ≤ braces
       → slice_get chart.states s ≡ Some state → state.parent ≡ parent → IsRun s (states_from chart levels s) → At i (lexemes_of (state_spans chart levels d s) ++ ws) (up_to s)
       → Answers (text.state_with (text.opened braces) parent i) tt ws (up_to (s + length (states_from chart levels s)))
   unfolding text.state_with
   state_step zero d braces s state parent i ws total deep room is up run at =
-      let within : depth chart s < MAX_DEPTH = (chart_of chart accepted).few_ancestors s (get_within chart.states s state is) in
+      let within : depth chart s < max_depth = (chart_of chart accepted).few_ancestors s (get_within chart.states s state is) in
       absurd (omega (arith, within))
   state_step (suc levels) d zero s state parent i ws total deep room is up run at = absurd (omega arith)
   state_step (suc levels) d (suc braces) s state parent i ws total deep room is up run at =
@@ -365,7 +365,7 @@ module _ (chart : Chart) (accepted : IsAccepted chart) (new : AreNewIn (λ (y : 
             state_step levels (d + 1) braces c inner (Some (record { 0 = s })) j vs (omega (arith, total)) deeper (omega arith) there own child_run child_at;
         some = λ c child_up.
             let deeper : depth chart c ≡ d + 1 = depth_child chart ok c s child_up ∙ ap (λ (n : ℕ). n + 1) deep in
-            let within : depth chart c < MAX_DEPTH = ok.few_ancestors c (parent_inside chart c s child_up) in
+            let within : depth chart c < max_depth = ok.few_ancestors c (parent_inside chart c s child_up) in
             one_less levels (omega (arith, total, deeper, within));
       } in
       let inner_run : IsRun (suc s) (inner_order levels cs) = (subst (IsRun s) (order_is levels s) run).1 in

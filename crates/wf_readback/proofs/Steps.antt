@@ -1,7 +1,7 @@
 -- What the steps of rules answer, where the next lexemes are known.
 use Rattle.std.proofs.Common.{◌≡◌, ℕ, ◌+◌, ◌≤◌, true, false, nat_le, List, [], ◌∷◌, length, Some, Ok, refl, sym, ◌∙◌, ap, subst}
 use Rattle.std.proofs.lemmas.List.{length-map}
-use Rattle.wf_model.specs.declared.limits.TheConstants.{MAX_NAME}
+use Rattle.wf_model.specs.Limits.{max_name}
 use Rattle.wf_model.specs.declared.ids.UnitId.{UnitId}
 use Rattle.wf_model.specs.declared.ids.EventId.{EventId}
 use Rattle.wf_model.specs.declared.ids.VarId.{VarId}
@@ -119,11 +119,11 @@ module _ (i : Input) (w : Lexeme) (ws : List Lexeme) (m : Made) (at : At i (w �
   pub activity_step : (a : ActId) → IsNameOf m.names (declared_as_a.Activity a) w → Answers (input.activity i) a ws m
   activity_step a is = one_token i w ws m input.activity a at (λ t rest same. activity_here i t rest i.at i.nodes a (here_is (declared_as_a.Activity a) t same is))
 
-pub name_here : (i : Input) (t : Token) (rest : List Token) (at count : ℕ) → Is pieces.Name (lexeme_of i.text t) → length (lexeme_of i.text t).bytes ≤ MAX_NAME
+pub name_here : (i : Input) (t : Token) (rest : List Token) (at count : ℕ) → Is pieces.Name (lexeme_of i.text t) → length (lexeme_of i.text t).bytes ≤ max_name
     → name_ahead (here i (t ∷ rest) at count) ≡ Ok (tt, here i (t ∷ rest) at count)
 unfolding name_ahead
 name_here i t rest at count is short =
-    let fits : nat_le (length (spelling (here i (t ∷ rest) at count))) MAX_NAME ≡ true = rw (spelling_here i t rest at count) (is_fit (length (lexeme_of i.text t).bytes) MAX_NAME short) in
+    let fits : nat_le (length (spelling (here i (t ∷ rest) at count))) max_name ≡ true = rw (spelling_here i t rest at count) (is_fit (length (lexeme_of i.text t).bytes) max_name short) in
     rw (sees_here i t rest at count pieces.Name is) (rw fits refl)
 
 declared_is : (i : Input) (t : Token) (rest : List Token) (at count : ℕ) (what : Declared) → IsNameOf i.names what (lexeme_of i.text t) → declared (here i (t ∷ rest) at count) ≡ Some what

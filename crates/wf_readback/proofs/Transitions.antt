@@ -2,7 +2,7 @@
 use Rattle.std.proofs.Common.{◌≡◌, ℕ, zero, suc, ◌≤◌, true, false, nat_lt, List, [], ◌∷◌, ◌++◌, length, drop, flat_map, Option, Some, None, Ok, refl, sym, ◌∙◌, ap, subst, arith, append-nil, append_assoc, length-append}
 use Rattle.std.proofs.lemmas.List.{drop-map, drop_at}
 use lib.Chars.{codes}
-use Rattle.wf_model.specs.declared.limits.TheConstants.{MAX_NODES}
+use Rattle.wf_model.specs.Limits.{max_nodes}
 use Rattle.wf_model.specs.declared.ids.EventId.{EventId}
 use Rattle.wf_model.specs.declared.ids.VarId.{VarId}
 use Rattle.wf_model.specs.declared.ids.ActId.{ActId}
@@ -43,7 +43,7 @@ regrouped i us vs m same at = record { left = at.left ∙ same; made = at.made }
 
 -- an expression is small enough to be read
 abbrev pub IsFit : Chart → Expr → Type 0
-IsFit chart x = (is_known_expr chart x ≡ true) × (has_short_literals x ≡ true) × (nodes x ≤ MAX_NODES)
+IsFit chart x = (is_known_expr chart x ≡ true) × (has_short_literals x ≡ true) × (nodes x ≤ max_nodes)
 
 abbrev pub IsFitAction : Chart → Action → Type 0
 IsFitAction chart (act.Assign x value) = (nat_lt x.0 (length chart.vars) ≡ true) × IsFit chart value

@@ -3,7 +3,7 @@ use Rattle.std.proofs.Common.{◌≡◌, ℕ, ◌+◌, ◌-◌, ◌≤◌, true,
 use Rattle.std.specs.Option.{option_map}
 use Rattle.std.proofs.lemmas.List.{take_all}
 use lib.Chars.{codes}
-use Rattle.wf_model.specs.declared.limits.TheConstants.{MAX_NAME, MAX_DEPTH, MAX_OPEN}
+use Rattle.wf_model.specs.Limits.{max_name, max_depth, max_open}
 use Rattle.wf_model.specs.declared.ids.StateId.{StateId}
 use Rattle.wf_model.specs.declared.chart.Kind.{Kind}
 use Rattle.wf_model.specs.declared.chart.Kind.TheVariants as kinds
@@ -59,7 +59,7 @@ unfolding piece_of word_piece
 chart_is = refl
 
 -- any name
-name_reads : (i : Input) (t : Token) (rest : List Token) (at count : ℕ) → Is pieces.Name (lexeme_of i.text t) → length (lexeme_of i.text t).bytes ≤ MAX_NAME
+name_reads : (i : Input) (t : Token) (rest : List Token) (at count : ℕ) → Is pieces.Name (lexeme_of i.text t) → length (lexeme_of i.text t).bytes ≤ max_name
     → input.name (here i (t ∷ rest) at count) ≡ Ok ((lexeme_of i.text t).bytes, here i rest (at + 1) count)
 unfolding input.name
 name_reads i t rest at count is short =
@@ -70,7 +70,7 @@ name_step i name ws m h at =
     one_token i (word_lexeme name) ws m input.name name at
     (λ t rest same.
     let is : Is pieces.Name (lexeme_of i.text t) = subst (λ (l : Lexeme). l.piece ≡ pieces.Name) (sym same) (name_piece name h) in
-    let short : length (lexeme_of i.text t).bytes ≤ MAX_NAME = subst (λ (l : Lexeme). length l.bytes ≤ MAX_NAME) (sym same) (name_is_short name h) in
+    let short : length (lexeme_of i.text t).bytes ≤ max_name = subst (λ (l : Lexeme). length l.bytes ≤ max_name) (sym same) (name_is_short name h) in
     name_reads i t rest i.at i.nodes is short ∙ ap (λ (l : Lexeme). Ok (l.bytes, here i rest (i.at + 1) i.nodes)) same)
 
 finished_step : (i : Input) (m : Made) → At i [] m → text.finished i ≡ Ok (tt, i)
@@ -107,7 +107,7 @@ depth_root chart = refl
 
 module _ (chart : Chart) where
   abbrev pub state_part : List Span
-  state_part = state_spans chart MAX_DEPTH 0 0
+  state_part = state_spans chart max_depth 0 0
 
   abbrev pub transition_part : List Span
   transition_part = flat_map (transition_line chart) chart.transitions
@@ -170,7 +170,7 @@ module _ (chart : Chart) where
       let a = expect_step pieces.Chart i (word_lexeme (codes "chart")) (word_lexeme chart.name ∷ sign_lexeme (codes ";") ∷ lines) m begins chart_is in
       let b = name_step a.behind chart.name (sign_lexeme (codes ";") ∷ lines) m (has_names chart named).own a.at in
       let c = expect_step pieces.Semicolon b.behind (sign_lexeme (codes ";")) lines m b.at semicolon_is in
-      let head = line_is chart accepted o.states (units_before accepted) m (MAX_DEPTH - 1) 0 0 r.state end r.there in
+      let head = line_is chart accepted o.states (units_before accepted) m (max_depth - 1) 0 0 r.state end r.there in
       let next_root : first_piece rest ≡ Some pieces.Or = ap first_piece head ∙ ap (λ (k : Kind). Some (word_lexeme (kind_bytes k)).piece) r.is_or ∙ ap Some (kind_is kinds.Or) in
       let fresh_at : At c.behind lines (start c.behind) = record { left = c.at.left; made = fresh c.behind c.at.made } in
       let d = read_all chart c.behind accepted short rest next_root fresh_at in
@@ -178,8 +178,8 @@ module _ (chart : Chart) where
       let units = units_before accepted in
       let no_states : base ≡ up_to chart accepted o.states units base 0 =
       ap₂ (λ (xs : List State) ns. record base { states = xs; names = ns }) (ap (λ (k : Made). k.states) c.at.made ∙ empty) (sym (append-nil (names_before_states chart))) in
-      let e = state_step chart accepted o.states units base MAX_DEPTH 0 MAX_OPEN 0 r.state None d.behind end refl (depth_root chart) (omega arith) r.there r.is_top order.0 (remade d.behind rest base _ no_states d.at) in
-      let count = 0 + length (states_from chart MAX_DEPTH 0) in
+      let e = state_step chart accepted o.states units base max_depth 0 max_open 0 r.state None d.behind end refl (depth_root chart) (omega arith) r.there r.is_top order.0 (remade d.behind rest base _ no_states d.at) in
+      let count = 0 + length (states_from chart max_depth 0) in
       let all : take count chart.states ≡ chart.states = take_all count chart.states (omega (arith, order.1)) in
       let all_made : up_to chart accepted o.states units base count ≡ in_the_end c.behind =
       ap (λ (xs : List State). record base { states = xs; names = names_before_states chart ++ declared_from (λ y. y.name) state_of 0 xs }) all in

@@ -1,7 +1,7 @@
 -- Literals as a program holds them.
 use Rattle.std.specs.Prelude.{Bool, true, ◌&&◌, nat_le, length}
 use Rattle.std.specs.List.{list_all}
-use Rattle.wf_model.specs.declared.limits.TheConstants.{MAX_TEXT}
+use Rattle.wf_model.specs.Limits.{max_text}
 use Rattle.wf_model.specs.declared.expr.Expr.{Expr, end_of-Expr, more_of-Expr}
 use Rattle.wf_model.specs.declared.expr.Expr.TheVariants as e
 use Rattle.wf_model.specs.declared.chart.Action.{Action}
@@ -12,9 +12,9 @@ use Rattle.wf_model.specs.Txt.{is_text}
 use Rattle.wf_model.specs.Accepted.{all_of}
 use Rattle.wf_canon.specs.Charts.{is_short_value}
 
--- each Text is one of at most MAX_TEXT text characters
+-- each Text is one of at most max_text text characters
 abbrev pub has_short_texts : Expr → Bool
-has_short_texts (e.Text t) = is_text t && nat_le (length t) MAX_TEXT
+has_short_texts (e.Text t) = is_text t && nat_le (length t) max_text
 has_short_texts (e.Not' p (more_of-Expr x end_of-Expr)) = has_short_texts x
 has_short_texts (e.Neg' p (more_of-Expr x end_of-Expr)) = has_short_texts x
 has_short_texts (e.Bin' op p (more_of-Expr x end_of-Expr) q (more_of-Expr y end_of-Expr)) = has_short_texts x && has_short_texts y

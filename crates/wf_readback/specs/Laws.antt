@@ -1,7 +1,7 @@
 -- The canonical text of a chart is read back.
 use Rattle.std.specs.Prelude.{◌≡◌, ◌≤◌, ◌++◌, ℕ, List, [], ◌∷◌, length, drop, flat_map, None, Some, Ok, IsTrue}
 use lib.Chars.{codes}
-use Rattle.wf_model.specs.declared.limits.TheConstants.{MAX_TOKENS}
+use Rattle.wf_model.specs.Limits.{max_tokens}
 use Rattle.wf_model.specs.declared.chart.Chart.{Chart}
 use Rattle.wf_model.specs.Accepted.{IsAccepted}
 use Rattle.wf_lex.specs.declared.token.Token.{Token}
@@ -59,10 +59,10 @@ StatesAreInOrder = (chart : Chart) → IsAccepted chart → IsInOrder chart
 abbrev pub MeantIsTextOf : Type 0
 MeantIsTextOf = (text : List ℕ) (chart : Chart) → Means text chart → IsTextOf text chart
 
--- and a text of a chart means it, where it is cut into at most MAX_TOKENS tokens
+-- and a text of a chart means it, where it is cut into at most max_tokens tokens
 abbrev pub TextOfFewIsMeant : Type 0
 TextOfFewIsMeant =
-    (text : List ℕ) (tokens : List Token) (chart : Chart) → IsCut text tokens → length tokens ≤ MAX_TOKENS → IsTextOf text chart →
+    (text : List ℕ) (tokens : List Token) (chart : Chart) → IsCut text tokens → length tokens ≤ max_tokens → IsTextOf text chart →
     Means text chart
 
 -- The canonical text of an accepted chart is a text of that chart by the grammar, however many tokens it has, where its literals
@@ -71,14 +71,14 @@ abbrev pub ChartIsSpelled : Type 0
 ChartIsSpelled = (chart : Chart) → IsAccepted chart → IsTrue (is_held chart) → IsTextOf (chart_text chart) chart
 
 -- The canonical text of an accepted chart means that chart, where its literals are such as a program holds, and where it has at
--- most MAX_TOKENS tokens: the text of a large chart may have more.
+-- most max_tokens tokens: the text of a large chart may have more.
 abbrev pub ChartIsReadBack : Type 0
 ChartIsReadBack =
-    (chart : Chart) → IsAccepted chart → IsTrue (is_held chart) → length (lexemes_of (chart_spans chart)) ≤ MAX_TOKENS →
+    (chart : Chart) → IsAccepted chart → IsTrue (is_held chart) → length (lexemes_of (chart_spans chart)) ≤ max_tokens →
     Means (chart_text chart) chart
 
--- so is each canonical text of at most MAX_TOKENS bytes
+-- so is each canonical text of at most max_tokens bytes
 abbrev pub ShortTextIsReadBack : Type 0
 ShortTextIsReadBack =
-    (chart : Chart) → IsAccepted chart → IsTrue (is_held chart) → length (chart_text chart) ≤ MAX_TOKENS →
+    (chart : Chart) → IsAccepted chart → IsTrue (is_held chart) → length (chart_text chart) ≤ max_tokens →
     Means (chart_text chart) chart

@@ -1,6 +1,6 @@
 -- The order of states in the canonical text of a chart.
 use Rattle.std.specs.Prelude.{◌≡◌, ℕ, zero, suc, List, [], ◌∷◌, length, flat_map}
-use Rattle.wf_model.specs.declared.limits.TheConstants.{MAX_DEPTH}
+use Rattle.wf_model.specs.Limits.{max_depth}
 use Rattle.wf_model.specs.declared.chart.Chart.{Chart}
 use Rattle.wf_model.specs.Tree.{children}
 
@@ -16,4 +16,4 @@ IsRun k (s ∷ ss) = (s ≡ k) × IsRun (suc k) ss
 
 -- the states are numbered as they stand in the text
 abbrev pub IsInOrder : Chart → Type 0
-IsInOrder chart = IsRun 0 (states_from chart MAX_DEPTH 0) × (length (states_from chart MAX_DEPTH 0) ≡ length chart.states)
+IsInOrder chart = IsRun 0 (states_from chart max_depth 0) × (length (states_from chart max_depth 0) ≡ length chart.states)

@@ -3,7 +3,7 @@ use Rattle.std.proofs.Common.{◌≡◌, ℕ, zero, suc, ◌+◌, ◌-◌, ◌<�
 use Rattle.std.specs.List.{list_all, enumerate_from}
 use Rattle.std.specs.Option.{option_map, option_and_then}
 use Rattle.std.proofs.lemmas.Bool.{leb-true}
-use Rattle.wf_model.specs.declared.limits.TheConstants.{MAX_STATES, MAX_TRANSITIONS, MAX_DEPTH}
+use Rattle.wf_model.specs.Limits.{max_states, max_transitions, max_depth}
 use Rattle.wf_model.specs.declared.ids.EventId.{EventId}
 use Rattle.wf_model.specs.declared.chart.Chart.{Chart}
 use Rattle.wf_model.specs.declared.chart.State.{State}
@@ -31,9 +31,9 @@ pub record IsChart (chart : Chart) : Type 0 where
   pub sources : (t : ℕ) → t < length chart.transitions → (0 < source chart t) × (source chart t < length chart.states)
   pub targets : (t : ℕ) → t < length chart.transitions → (0 < target chart t) × (target chart t < length chart.states)
   -- the limits
-  pub few_states : length chart.states ≤ MAX_STATES
-  pub few_transitions : length chart.transitions ≤ MAX_TRANSITIONS
-  pub few_ancestors : (s : ℕ) → s < length chart.states → length (ancestors chart s) < MAX_DEPTH
+  pub few_states : length chart.states ≤ max_states
+  pub few_transitions : length chart.transitions ≤ max_transitions
+  pub few_ancestors : (s : ℕ) → s < length chart.states → length (ancestors chart s) < max_depth
   -- there is an event 0, and each transition's event is one of the chart
   pub some_event : 0 < length chart.events
   pub known_event : (t : ℕ) (trans : Transition) (event : EventId) → slice_get chart.transitions t ≡ Some trans → trans.event ≡ Some event → event.0 < length chart.events
@@ -72,8 +72,8 @@ rules chart ok = record { small = grind arith; numbered = grind arith; named = g
 
 -- the parts of the rules on limits, numbers and shape
 pub record AreParts (chart : Chart) : Type 0 where
-  pub few_states : length chart.states ≤ MAX_STATES
-  pub few_transitions : length chart.transitions ≤ MAX_TRANSITIONS
+  pub few_states : length chart.states ≤ max_states
+  pub few_transitions : length chart.transitions ≤ max_transitions
   pub small_transitions : list_all is_small_transition chart.transitions ≡ true
   pub some_event : 0 < length chart.events
   pub placed_events : all_numbered (is_placed_event chart) chart.events ≡ true
@@ -86,8 +86,8 @@ pub record AreParts (chart : Chart) : Type 0 where
 parts_of : (chart : Chart) → is_small chart ≡ true → is_numbered chart ≡ true → is_shaped chart ≡ true → AreParts chart
 unfolding is_small is_numbered is_shaped
 parts_of chart small numbered shaped = record {
-  few_states = leb-true (length chart.states) MAX_STATES (grind arith);
-  few_transitions = leb-true (length chart.transitions) MAX_TRANSITIONS (grind arith);
+  few_states = leb-true (length chart.states) max_states (grind arith);
+  few_transitions = leb-true (length chart.transitions) max_transitions (grind arith);
   small_transitions = grind arith;
   some_event = ltb-true 0 (length chart.events) (grind arith);
   placed_events = grind arith;
@@ -139,11 +139,11 @@ module _ (chart : Chart) (p : AreParts chart) where
       ap (follows chart s) (ap (option_and_then parent_of) w.1)
       ∙ (and_both (follows chart s (parent_of w.0)) (Rattle.wf_model.specs.Accepted.is_unit chart w.0.unit) (numbered_at (is_placed_state chart) chart.states p.placed_states s w.0 w.1)).0
 
-  shaped : (s : ℕ) → s < length chart.states → (length (ancestors chart s) < MAX_DEPTH) × (suits (kind chart s) (has_child chart s) ≡ true)
+  shaped : (s : ℕ) → s < length chart.states → (length (ancestors chart s) < max_depth) × (suits (kind chart s) (has_child chart s) ≡ true)
   shaped s lt =
       let w = item_at chart.states s lt in
-      let both = and_both (nat_lt (length (ancestors chart s)) MAX_DEPTH) (suits w.0.kind (has_child chart s)) (numbered_at (is_shaped_state chart) chart.states p.shaped_states s w.0 w.1) in (
-        ltb-true (length (ancestors chart s)) MAX_DEPTH both.0,
+      let both = and_both (nat_lt (length (ancestors chart s)) max_depth) (suits w.0.kind (has_child chart s)) (numbered_at (is_shaped_state chart) chart.states p.shaped_states s w.0 w.1) in (
+        ltb-true (length (ancestors chart s)) max_depth both.0,
         ap (λ (o : Option State). suits (unwrap_or (option_map (λ state. state.kind) o) Basic) (has_child chart s)) w.1 ∙ both.1,
       )
 

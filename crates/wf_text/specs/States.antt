@@ -1,6 +1,6 @@
 -- state = ( basic | or | and ) NAME at UNIT ( ; | "{" { state } "}" )
 use Rattle.std.specs.Prelude.{ℕ, zero, suc, if◌then◌else◌, length, Option, Some, None}
-use Rattle.wf_model.specs.declared.limits.TheConstants.{MAX_OPEN}
+use Rattle.wf_model.specs.Limits.{max_open}
 use Rattle.wf_model.specs.declared.ids.StateId.{StateId}
 use Rattle.wf_model.specs.declared.chart.Kind.{Kind}
 use Rattle.wf_model.specs.declared.chart.Kind.TheVariants as kinds
@@ -67,7 +67,7 @@ abbrev pub state : ℕ → Option StateId → Parser (Unit {0})
 state depth parent = state_with (opened depth) parent
 
 abbrev pub root_by : Option Kind → Parser (Unit {0})
-root_by (Some k) = state MAX_OPEN None
+root_by (Some k) = state max_open None
 root_by None = pure tt
 
 -- [ state ]

@@ -1,6 +1,6 @@
 //! Why a text means no chart, and where.
 ghost use Rattle.std.specs.Prelude.{◌≡◌, ◌≤◌, length};
-ghost use Rattle.wf_model.specs.declared.limits.TheConstants.{MAX_INPUT};
+ghost use Rattle.wf_model.specs.Limits.{max_input};
 ghost use Rattle.wf_text.specs.ChartFaults as spec;
 
 use crate::places::{Place, place_of};
@@ -35,7 +35,7 @@ pub enum ChartFault {
 
 // Where a token starts, or the end of the text where there is no such token.
 fn token_place(text: &[u8], tokens: &[Token], at: usize) -> Place
-    requires { length text.now ≤ MAX_INPUT }
+    requires { length text.now ≤ max_input }
     ensures { result ≡ spec.token_place text.now tokens.now at }
 {
     let start = match tokens.get(at) {
@@ -48,7 +48,7 @@ fn token_place(text: &[u8], tokens: &[Token], at: usize) -> Place
 /// The fault with its place, of a text with these tokens. Linear in the text.
 #[tactic(auto, unfolding(crate::specs::ChartFaults::placed_fault))]
 pub fn placed_fault(text: &[u8], tokens: &[Token], fault: TextFault) -> ChartFault
-    requires { length text.now ≤ MAX_INPUT }
+    requires { length text.now ≤ max_input }
     ensures { result ≡ spec.placed_fault text.now tokens.now fault }
 {
     match fault {

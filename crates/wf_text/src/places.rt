@@ -1,6 +1,6 @@
 //! Lines and columns of a text.
 ghost use Rattle.std.specs.Prelude.{◌≡◌, ◌≤◌, ◌+◌, length, take, take_while, reverse, not, count_by};
-ghost use Rattle.wf_model.specs.declared.limits.TheConstants.{MAX_INPUT};
+ghost use Rattle.wf_model.specs.Limits.{max_input};
 ghost use Rattle.wf_text.specs.Places as spec;
 
 /// A line and a column in it. Both count bytes from 1.
@@ -32,7 +32,7 @@ fn last_line_len(bytes: &[u8]) -> usize
 /// The place of the byte that has `at` bytes before it; past the end of the text, that of the end. Linear in these bytes.
 #[tactic(auto, using(crate::proofs::LastLine::last_line_length), unfolding(crate::specs::Places::place_of))]
 pub fn place_of(text: &[u8], at: usize) -> Place
-    requires { length text.now ≤ MAX_INPUT }
+    requires { length text.now ≤ max_input }
     ensures { result ≡ spec.place_of text.now at }
 {
     let before = &text[..at.min(text.len())];

@@ -3,6 +3,7 @@ ghost use Rattle.std.specs.Prelude.{◌≡◌, ◌≤◌, length};
 ghost use Rattle.wf_cursor.specs.Input.{Reads, start_of};
 ghost use Rattle.wf_text.specs.Text as spec;
 ghost use Rattle.wf_text.specs.Text.{Gives};
+ghost use Rattle.wf_model.specs.Limits.{max_input, max_tokens};
 
 use crate::ChartFault;
 use crate::chart_fault::placed_fault;
@@ -33,7 +34,7 @@ fn contents(alloc: Global, cursor: &mut Cursor<'_>) -> Result<(Name, List<Transi
 
 // Reads a chart from its tokens. A fault names a token by its number.
 fn chart(alloc: Global, text: &[u8], tokens: &[Token]) -> Result<Chart, TextFault>
-    requires { length tokens.now ≤ MAX_TOKENS }
+    requires { length tokens.now ≤ max_tokens }
     ensures { Gives TextFault.NoMemory result (spec.whole (spec.contents (start_of text.now tokens.now))) }
 {
     let mut cursor = Cursor::new(alloc, text, tokens)?;
@@ -45,7 +46,7 @@ fn chart(alloc: Global, text: &[u8], tokens: &[Token]) -> Result<Chart, TextFaul
 /// its line and its column: faults of tokens come before the others. In time and memory linear in the text, on average.
 #[tactic(auto, unfolding(crate::specs::Text::chart_of))]
 pub fn read_chart(alloc: Global, text: &[u8]) -> Result<Chart, ChartFault>
-    requires { length text.now ≤ MAX_INPUT }
+    requires { length text.now ≤ max_input }
     ensures { Gives ChartFault.NoMemory result (spec.chart_of text.now) }
 {
     match tokens(alloc, text) {

@@ -3,7 +3,7 @@ use Rattle.std.proofs.Common.{◌≡◌, ◌⊎◌, ◌≤◌, ◌<◌, ◌∙�
 use Rattle.std.proofs.lemmas.Bool.Decides.{nat_tests}
 use Rattle.std.specs.Io.KnownBytes.{Appends, Consumes, IsAtEnd}
 use lib.Chars.{codes}
-use Rattle.wf_model.specs.declared.limits.TheConstants.{MAX_INPUT, MAX_LINES, MAX_REPORT}
+use Rattle.wf_model.specs.Limits.{max_input, max_lines, max_report}
 use Rattle.wf_model.specs.declared.status.Status.{Status}
 use Rattle.wf_model.specs.declared.status.Status.TheVariants as status
 use Rattle.wf_io.specs.Causes.{Rose}
@@ -64,7 +64,7 @@ either_answered true a b first second = first
 either_answered false a b first second = second
 
 run_answered : (text : List ℕ) → IsAnswered (run_answer text).status
-run_answered text = either_answered (nat_le (length text) MAX_REPORT) (answer status.Ok text) (answer status.Limit too_long_report) tt tt
+run_answered text = either_answered (nat_le (length text) max_report) (answer status.Ok text) (answer status.Limit too_long_report) tt tt
 
 lines_answered : (chart : Chart) (found : Result (List (ℕ × CentralLine)) ScriptFault) → IsNamed found → IsAnswered (lines_answer chart found).status
 lines_answered chart (Ok lines) named = run_answered (central_text chart lines)
@@ -74,7 +74,7 @@ lines_answered chart (Err script.NoMemory) named = absurd named
 central_answered : (chart : Chart) (script : List ℕ) → IsAnswered (central_answer chart script).status
 unfolding central_answer
 central_answered chart script =
-    either_answered (nat_le (length (lines_of script)) MAX_LINES) (lines_answer chart (script_of chart script)) (answer status.Limit too_many_lines)
+    either_answered (nat_le (length (lines_of script)) max_lines) (lines_answer chart (script_of chart script)) (answer status.Limit too_many_lines)
     (lines_answered chart (script_of chart script) (script_named chart script)) tt
 
 chart_answered : (command : Command) (script : List ℕ) (found : Result Chart (List ℕ)) → IsAnswered (chart_answer command script found).status
@@ -108,15 +108,15 @@ answer_due words before after command bytes s text is a end =
     due_answer words before after s text (subst (λ (x : Answer). IsAnswered x.status) (sym is) (within_answered command bytes)) a end
 
 -- more bytes than may be
-pub long_answer : (command : Command) (left : Option (List ℕ)) → IfSome left (λ bytes. MAX_INPUT < length bytes)
+pub long_answer : (command : Command) (left : Option (List ℕ)) → IfSome left (λ bytes. max_input < length bytes)
     → IfSome left (λ input. answer_of command input ≡ answer status.Limit (refusal (codes "limit input")))
 unfolding answer_of
 long_answer command None h = tt
-long_answer command (Some input) h = let long : nat_le (length input) MAX_INPUT ≡ false = grind (arith, nat_tests) in rw long refl
+long_answer command (Some input) h = let long : nat_le (length input) max_input ≡ false = grind (arith, nat_tests) in rw long refl
 
-short_answer : (command : Command) (bytes : List ℕ) → length bytes ≤ MAX_INPUT → answer_of command bytes ≡ answer_within command bytes
+short_answer : (command : Command) (bytes : List ℕ) → length bytes ≤ max_input → answer_of command bytes ≡ answer_within command bytes
 unfolding answer_of
-short_answer command bytes h = let short : nat_le (length bytes) MAX_INPUT ≡ true = grind (arith, nat_tests) in rw short refl
+short_answer command bytes h = let short : nat_le (length bytes) max_input ≡ true = grind (arith, nat_tests) in rw short refl
 
 known_answer : (command : Command) (left after : Option (List ℕ)) (bytes : List ℕ) (a : Answer) → Consumes left after bytes → IsAtEnd after
     → answer_of command bytes ≡ a → IfSome left (λ input. answer_of command input ≡ a)
@@ -127,5 +127,5 @@ known_answer command (Some input) (Some rest) bytes a taken end is =
 
 -- the answer to all that was left
 pub read_answer : (command : Command) (left after : Option (List ℕ)) (bytes : List ℕ) (a : Answer) → Consumes left after bytes → IsAtEnd after
-    → length bytes ≤ MAX_INPUT → a ≡ answer_within command bytes → IfSome left (λ input. answer_of command input ≡ a)
+    → length bytes ≤ max_input → a ≡ answer_within command bytes → IfSome left (λ input. answer_of command input ≡ a)
 read_answer command left after bytes a taken end within is = known_answer command left after bytes a taken end (short_answer command bytes within ∙ sym is)

@@ -2,7 +2,7 @@
 use Rattle.std.specs.Prelude.{ℕ, List, [], ◌∷◌, nat_le, length, Option, Some, None, Result, Ok, Err, if◌then◌else◌}
 use Rattle.std.specs.Str.{bytes_eq}
 use lib.Chars.{codes}
-use Rattle.wf_model.specs.declared.limits.TheConstants.{MAX_INPUT, MAX_LINES, MAX_REPORT}
+use Rattle.wf_model.specs.Limits.{max_input, max_lines, max_report}
 use Rattle.wf_model.specs.declared.chart.Chart.{Chart}
 use Rattle.wf_model.specs.declared.status.Status.{Status}
 use Rattle.wf_model.specs.declared.status.Status.TheVariants as status
@@ -60,7 +60,7 @@ answer s text = record { status = s; text = text }
 
 -- the text that a command writes, unless it is too long
 abbrev pub run_answer : List ℕ → Answer
-run_answer text = if nat_le (length text) MAX_REPORT then answer status.Ok text else answer status.Limit too_long_report
+run_answer text = if nat_le (length text) max_report then answer status.Ok text else answer status.Limit too_long_report
 
 -- the run of a script's lines, or the first line outside the grammar; for want of memory there is none
 abbrev pub lines_answer : Chart → Result (List (ℕ × CentralLine)) ScriptFault → Answer
@@ -71,7 +71,7 @@ lines_answer chart (Err script.NoMemory) = answer status.NoMemory []
 -- the answer to a script, unless it has too many lines
 unfoldable pub central_answer : Chart → List ℕ → Answer
 central_answer chart script =
-    if nat_le (length (lines_of script)) MAX_LINES then lines_answer chart (script_of chart script) else answer status.Limit too_many_lines
+    if nat_le (length (lines_of script)) max_lines then lines_answer chart (script_of chart script) else answer status.Limit too_many_lines
 
 abbrev pub chart_answer : Command → List ℕ → Result Chart (List ℕ) → Answer
 chart_answer command script (Err line) = answer status.ChartRefused line
@@ -86,4 +86,4 @@ answer_within command input = chart_answer command (script_part input) (chart_in
 -- the answer of a command to an input
 unfoldable pub answer_of : Command → List ℕ → Answer
 answer_of command input =
-    if nat_le (length input) MAX_INPUT then answer_within command input else answer status.Limit (refusal (codes "limit input"))
+    if nat_le (length input) max_input then answer_within command input else answer status.Limit (refusal (codes "limit input"))

@@ -1,6 +1,6 @@
 //! What a command answers.
 ghost use Rattle.std.specs.Prelude.{◌≡◌, ◌≤◌, length, IfOk};
-ghost use Rattle.wf_model.specs.declared.limits.TheConstants.{MAX_INPUT};
+ghost use Rattle.wf_model.specs.Limits.{max_input};
 ghost use Rattle.wf_refusals.specs.Accepted.{accepted_line};
 ghost use Rattle.wf_top.specs.Answers as spec;
 
@@ -32,7 +32,7 @@ fn accepted(alloc: Global, chart: &Checked) -> Result<Answer, NoMemory>
 /// The answer of a command to an input.
 #[tactic(auto, unfolding(crate::specs::Answers::answer_within))]
 pub fn answer_to(alloc: Global, command: Command, input: &[u8]) -> Result<Answer, NoMemory>
-    requires { length input.now ≤ MAX_INPUT }
+    requires { length input.now ≤ max_input }
     ensures { IfOk result (λ a. a ≡ spec.answer_within command input.now) }
 {
     let parts = divide(input);

@@ -4,6 +4,7 @@ ghost use Rattle.wf_audit.specs.CentralText.{central_text};
 ghost use Rattle.wf_audit.specs.Lines.{lines_of};
 ghost use Rattle.wf_audit.specs.Script.{script_of};
 ghost use Rattle.wf_top.specs.Answers as spec;
+ghost use Rattle.wf_model.specs.Limits.{max_input, max_lines};
 
 use crate::answer::Answer;
 use std::alloc::Global;
@@ -14,7 +15,7 @@ use wf_refusals::{script_line, too_long_report, too_many_lines};
 
 // The answer of a run of these lines.
 fn run(alloc: Global, chart: &Checked, lines: &[(u32, CentralLine)]) -> Result<Answer, NoMemory>
-    requires { length lines.now ≤ MAX_LINES }
+    requires { length lines.now ≤ max_lines }
     ensures { IfOk result (λ a. a ≡ spec.run_answer (central_text chart.now lines.now)) }
 {
     match run_central(alloc, chart, lines) {
@@ -32,8 +33,8 @@ fn run(alloc: Global, chart: &Checked, lines: &[(u32, CentralLine)]) -> Result<A
 
 // The answer to a script of few enough lines.
 fn answer_lines(alloc: Global, chart: &Checked, script: &[u8]) -> Result<Answer, NoMemory>
-    requires within { length script.now ≤ MAX_INPUT }
-    requires few { length (lines_of script.now) ≤ MAX_LINES }
+    requires within { length script.now ≤ max_input }
+    requires few { length (lines_of script.now) ≤ max_lines }
     ensures { IfOk result (λ a. a ≡ spec.lines_answer chart.now (script_of chart.now script.now)) }
 {
     match read_central(alloc, chart.chart(), script) {
@@ -51,7 +52,7 @@ fn answer_lines(alloc: Global, chart: &Checked, script: &[u8]) -> Result<Answer,
 /// these that holds.
 #[tactic(auto, unfolding(crate::specs::Answers::central_answer))]
 pub fn central(alloc: Global, chart: &Checked, script: &[u8]) -> Result<Answer, NoMemory>
-    requires { length script.now ≤ MAX_INPUT }
+    requires { length script.now ≤ max_input }
     ensures { IfOk result (λ a. a ≡ spec.central_answer chart.now script.now) }
 {
     if line_count(script) <= MAX_LINES {

@@ -1,6 +1,6 @@
 //! The chart of an input.
 ghost use Rattle.std.specs.Prelude.{◌≡◌, ◌≤◌, length, IfOk};
-ghost use Rattle.wf_model.specs.declared.limits.TheConstants.{MAX_INPUT};
+ghost use Rattle.wf_model.specs.Limits.{max_input};
 ghost use Rattle.wf_check.specs.FirstFault.{first_fault};
 ghost use Rattle.wf_top.specs.Answers as spec;
 
@@ -25,7 +25,7 @@ fn checked(alloc: Global, chart: Chart) -> Result<Result<Checked, Bytes>, NoMemo
 /// times their depth.
 #[tactic(auto, unfolding(crate::specs::Answers::chart_in))]
 pub fn chart_in(alloc: Global, text: &[u8]) -> Result<Result<Checked, Bytes>, NoMemory>
-    requires { length text.now ≤ MAX_INPUT }
+    requires { length text.now ≤ max_input }
     ensures { IfOk result (λ found. found ≡ spec.chart_in text.now) }
 {
     match read_chart(alloc, text) {

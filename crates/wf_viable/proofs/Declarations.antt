@@ -3,7 +3,7 @@ use Rattle.std.proofs.Common.{arith, ◌≡◌, ℕ, zero, suc, ◌+◌, ◌≤�
 use Rattle.std.proofs.lemmas.List.{length-map}
 use Rattle.wf_model.specs.declared.ids.UnitId.{UnitId}
 use Rattle.wf_model.specs.declared.ids.VarId.{VarId}
-use Rattle.wf_model.specs.declared.limits.TheConstants.{MAX_INT}
+use Rattle.wf_model.specs.Limits.{max_int}
 use Rattle.wf_model.specs.declared.value.Sort.TheVariants as sorts
 use Rattle.wf_model.specs.declared.value.Val.TheVariants as v
 use Rattle.wf_cursor.specs.declared.names.Declared.TheVariants as declared_as_a
@@ -67,10 +67,10 @@ unfolding number negated characters input.int input.negated_int
 literal_by_fits i pieces.True h = literal_with i pieces.True (literal_by (Some pieces.True) i) h (took_one i (next i) pieces.True h (refl, refl))
 literal_by_fits i pieces.False h = literal_with i pieces.False (literal_by (Some pieces.False) i) h (took_one i (next i) pieces.False h (refl, refl))
 literal_by_fits i pieces.Int h = literal_with i pieces.Int (number i) h
-    (then_keeps i (One pieces.Int) Anything (input.int i) (λ n. pure (v.Int (pos n))) (int_fits i MAX_INT) (λ x j. (refl, refl)))
+    (then_keeps i (One pieces.Int) Anything (input.int i) (λ n. pure (v.Int (pos n))) (int_fits i max_int) (λ x j. (refl, refl)))
 literal_by_fits i pieces.Minus h = literal_with i pieces.Minus (negated i) h
     (next_then i pieces.Minus (One pieces.Int) Anything (negated i) h
-    (then_keeps (next i) (One pieces.Int) Anything (input.negated_int (next i)) (λ n. pure (v.Int (neg_ℤ (pos n)))) (int_fits (next i) (MAX_INT + 1)) (λ x j. (refl, refl))))
+    (then_keeps (next i) (One pieces.Int) Anything (input.negated_int (next i)) (λ n. pure (v.Int (neg_ℤ (pos n)))) (int_fits (next i) (max_int + 1)) (λ x j. (refl, refl))))
 literal_by_fits i pieces.Text h = literal_with i pieces.Text (characters i) h
     (then_keeps i (One pieces.Text) Anything (input.text i) (λ t. pure (v.Text t)) (text_fits i) (λ x j. (refl, refl)))
 literal_by_fits i p h = stuck_here i Literal Anything some_literal (λ us vs shaped follows is. literal_narrow p us vs shaped (is ∙ h))

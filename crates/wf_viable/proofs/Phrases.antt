@@ -1,7 +1,7 @@
 -- The rules of expressions take the phrases of their lines, and tell a fault of syntax at the first piece that fits none.
 use Rattle.std.proofs.Common.{arith, ◌≡◌, ℕ, zero, suc, ◌≤◌, Bool, true, false, List, [], ◌∷◌, ◌++◌, length, Option, Some, None, refl, sym, ◌∙◌, ap, subst}
 use Rattle.std.proofs.lemmas.List.{length-map}
-use Rattle.wf_model.specs.declared.limits.TheConstants.{MAX_OPEN, MAX_INT}
+use Rattle.wf_model.specs.Limits.{max_open, max_int}
 use Rattle.wf_model.specs.declared.expr.Op.{Op}
 use Rattle.wf_model.specs.declared.expr.Expr.{Expr}
 use Rattle.wf_model.specs.declared.expr.Expr.TheVariants as e
@@ -124,7 +124,7 @@ truth_fits i p b h =
 number_fits : (i : Input) → Next pieces.Int i → Fits i (One pieces.Int) Anything (number i)
 unfolding number input.int
 number_fits i h = node_then i pieces.Int [] (One pieces.Int) Anything (input.int >>= (λ n. pure (e.Int n))) h One.one
-    (then_keeps (with_node i) (One pieces.Int) Anything (input.int (with_node i)) (λ n. pure (e.Int n)) (int_fits (with_node i) MAX_INT) (λ x j. (refl, refl)))
+    (then_keeps (with_node i) (One pieces.Int) Anything (input.int (with_node i)) (λ n. pure (e.Int n)) (int_fits (with_node i) max_int) (λ x j. (refl, refl)))
 
 characters_fits : (i : Input) → Next pieces.Text i → Fits i (One pieces.Text) Anything (characters i)
 unfolding characters
@@ -390,5 +390,5 @@ parens_fits (suc depth) i h =
 
 pub expr_fits : (i : Input) → Fits i (Phrase Line.expr) EndsExpr (expr i)
 unfolding expr without_nodes
-expr_fits i = same_fits i (record i { nodes = 0 }) (Phrase Line.expr) EndsExpr (disj MAX_OPEN (parens MAX_OPEN) (record i { nodes = 0 })) (refl, refl)
-    (disj_fits MAX_OPEN (parens MAX_OPEN) (parens_fits MAX_OPEN) (record i { nodes = 0 }))
+expr_fits i = same_fits i (record i { nodes = 0 }) (Phrase Line.expr) EndsExpr (disj max_open (parens max_open) (record i { nodes = 0 })) (refl, refl)
+    (disj_fits max_open (parens max_open) (parens_fits max_open) (record i { nodes = 0 }))

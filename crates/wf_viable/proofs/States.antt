@@ -1,7 +1,7 @@
 -- States take what their shapes say, and tell a fault of syntax at the first piece that fits none.
 use Rattle.std.proofs.Common.{arith, ◌≡◌, ℕ, zero, suc, ◌≤◌, if◌then◌else◌, List, [], ◌∷◌, ◌++◌, length, Option, Some, None, Ok, refl, sym, ◌∙◌, ap, subst, append_assoc}
 use Rattle.std.proofs.lemmas.List.{length-map}
-use Rattle.wf_model.specs.declared.limits.TheConstants.{MAX_OPEN}
+use Rattle.wf_model.specs.Limits.{max_open}
 use Rattle.wf_model.specs.declared.ids.StateId.{StateId}
 use Rattle.wf_model.specs.declared.chart.Kind.{Kind as KindOf}
 use Rattle.wf_model.specs.declared.chart.Kind.TheVariants as kinds
@@ -268,5 +268,5 @@ root_fits i = by_kind (kind_of (piece i)) refl
     by_kind : (k : Option KindOf) → kind_of (piece i) ≡ k → Fits i (Maybe State) EndsRoot (root_by k i)
     by_kind None is = maybe_none StartsState EndsRoot State state_begins root_apart i (Ok (tt {0}, i)) (λ h. h (ap kind_of (sym (piece_first i)) ∙ is)) (refl, refl)
     by_kind (Some k) is =
-        maybe_some StartsState EndsRoot State state_begins root_apart i (state_with (opened MAX_OPEN) None i) (λ h. (let there = ap kind_of (piece_first i) in cc))
-        (follows_less i State Anything EndsRoot (state_with (opened MAX_OPEN) None i) (λ q a. tt) (state_with_fits (opened MAX_OPEN) (opened_fits MAX_OPEN) i None))
+        maybe_some StartsState EndsRoot State state_begins root_apart i (state_with (opened max_open) None i) (λ h. (let there = ap kind_of (piece_first i) in cc))
+        (follows_less i State Anything EndsRoot (state_with (opened max_open) None i) (λ q a. tt) (state_with_fits (opened max_open) (opened_fits max_open) i None))

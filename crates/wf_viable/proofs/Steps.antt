@@ -1,6 +1,6 @@
 -- Each step that rules are made of takes one piece, or tells a fault where it stands.
 use Rattle.std.proofs.Common.{arith, ◌≡◌, ℕ, ◌+◌, ◌==◌, nat_le, nat_lt, Bool, true, false, if◌then◌else◌, List, [], ◌∷◌, ◌++◌, length, Option, Some, None, Ok, Err, refl, sym, ◌∙◌, ap, subst}
-use Rattle.wf_model.specs.declared.limits.TheConstants.{MAX_NAME, MAX_NODES}
+use Rattle.wf_model.specs.Limits.{max_name, max_nodes}
 use Rattle.wf_lex.specs.declared.token.Token.{Token}
 use Rattle.wf_cursor.specs.declared.fault.TextFault.TheVariants as fault
 use Rattle.wf_cursor.specs.declared.names.Declared.{Declared}
@@ -183,8 +183,8 @@ name_then i f g = by_test (sees pieces.Name i) refl
     by_size false h = one_over i pieces.Name h
 
     by_test : (b : Bool) → sees pieces.Name i ≡ b
-        → Fits i (One pieces.Name) Anything (and_then (if b then (if nat_le (length (spelling i)) MAX_NAME then Ok (tt {0}, i) else oversize i) else syntax i) (λ _. f))
-    by_test true h = by_size (nat_le (length (spelling i)) MAX_NAME) (sym (piece_first i) ∙ sees_piece pieces.Name i h)
+        → Fits i (One pieces.Name) Anything (and_then (if b then (if nat_le (length (spelling i)) max_name then Ok (tt {0}, i) else oversize i) else syntax i) (λ _. f))
+    by_test true h = by_size (nat_le (length (spelling i)) max_name) (sym (piece_first i) ∙ sees_piece pieces.Name i h)
     by_test false h = stuck_here i (One pieces.Name) Anything (record { pieces = pieces.Name ∷ []; shaped = One.one }) by_one
       where
         by_one : (us vs : List Piece) → One pieces.Name us → Anything (first vs) → first (us ++ vs) ≡ first (pieces_left i) → ⊥
@@ -279,7 +279,7 @@ with_node i = record i { nodes = i.nodes + 1 }
 pub node_then : {A : Type 0} (i : Input) (p : Piece) (ending : List Piece) (L : Shape) (F : Follow) (f : Parser A) → Next p i → L (p ∷ ending)
     → Fits (with_node i) L F (f (with_node i)) → Fits i L F (and_then (node i) (λ _. f))
 unfolding node
-node_then {A = A} i p ending L F f h shaped fits = by_test (nat_lt i.nodes MAX_NODES)
+node_then {A = A} i p ending L F f h shaped fits = by_test (nat_lt i.nodes max_nodes)
   where
     by_test : (b : Bool) → Fits i L F (and_then (if b then Ok (tt {0}, with_node i) else oversize i) (λ _. f))
     by_test true = same_fits i (with_node i) L F (f (with_node i)) (refl, refl) fits

@@ -1,7 +1,7 @@
 //! Records, and bodies that are none.
 ghost use Rattle.std.specs.Prelude.{◌<◌, ◌≤◌, IfOk, length};
 ghost use Rattle.std.specs.List.{AllByRecursion};
-ghost use Rattle.wf_model.specs.declared.limits.TheConstants.{MAX_OUTPUTS, MAX_VARS};
+ghost use Rattle.wf_model.specs.Limits.{max_outputs, max_vars};
 
 use super::{bytes_of, empty, is_record, one};
 use crate::{JournalRecord, decode_record, encode_record};
@@ -47,8 +47,8 @@ fn an_admission_is_spelled(rt: HostRuntime) -> Result<(), Fail> {
 
 /// An output of each sort.
 fn outputs(alloc: Global) -> Result<List<Output>, NoMemory>
-    ensures count { IfOk result (λ outputs. length outputs ≤ MAX_OUTPUTS) }
-    ensures each { IfOk result (λ outputs. AllByRecursion (λ o. o.var.0 < MAX_VARS) outputs) }
+    ensures count { IfOk result (λ outputs. length outputs ≤ max_outputs) }
+    ensures each { IfOk result (λ outputs. AllByRecursion (λ o. o.var.0 < max_vars) outputs) }
 {
     let mut text = Txt::new();
     text.push(b'a');

@@ -1,6 +1,6 @@
 use Rattle.std.proofs.Common.{◌≡◌, ◌<◌, ◌≤◌, ℕ, List, [], ◌++◌, length, map, get_or, sym, ◌∙◌, ap, ap₂, subst, arith}
 use Rattle.std.specs.List.{All}
-use Rattle.wf_model.specs.declared.limits.TheConstants.{MAX_ACTS}
+use Rattle.wf_model.specs.Limits.{max_acts}
 use Rattle.wf_model.specs.declared.ids.ActId.{ActId}
 use Rattle.std.proofs.lemmas.List.{get_or_default, get_or-map}
 use Rattle.wf_semantics.specs.Items.{Item, new_item}
@@ -24,7 +24,7 @@ pub loop-u-preserved : goal.loop-u-preserved
 loop-u-preserved c =
     let lt : c.loop-u.u < length c.loop-u.units = omega arith in
     let own : c.as_slice.result.now ≡ get_or c.args.acts.now c.loop-u.u c.index-acts-u.result = c.as_slice.ensures ∙ c.index-acts-u.is in
-    let small : All (λ (a : ActId). a.0 < MAX_ACTS) c.as_slice.result.now = subst (λ (l : List ActId). All (λ (a : ActId). a.0 < MAX_ACTS) l) (sym own) (c.requires.small c.loop-u.u c.index-acts-u.result (omega arith)) in
+    let small : All (λ (a : ActId). a.0 < max_acts) c.as_slice.result.now = subst (λ (l : List ActId). All (λ (a : ActId). a.0 < max_acts) l) (sym own) (c.requires.small c.loop-u.u c.index-acts-u.result (omega arith)) in
     let room : length (listed c.as_slice.result.now c.args.starts.now) ≤ (get_or c.loop-u.units c.loop-u.u c.index-units-u.result).room =
     omega (arith, listed_few c.as_slice.result.now c.args.starts.now, c.loop-u.invariant.room c.loop-u.u c.index-units-u.result (omega arith) lt) in
     let ready = c.grow.ensures.ready small room in

@@ -1,7 +1,7 @@
 use Rattle.std.proofs.Common.{◌≡◌, ◌∙◌, ◌≤◌, ◌<◌, length, IfSome, Some, None, refl, ap, inl, rules}
 use Rattle.std.specs.Io.KnownBytes.{Consumes, IsAtEnd}
 use lib.Chars.{codes}
-use Rattle.wf_model.specs.declared.limits.TheConstants.{MAX_INPUT}
+use Rattle.wf_model.specs.Limits.{max_input}
 use Rattle.wf_model.specs.declared.status.Status.TheVariants as status
 use Rattle.wf_io.specs.Causes.{Rose}
 use Rattle.wf_refusals.specs.Lines.{refusal}
@@ -32,7 +32,7 @@ pub returns-in-Err-TooLong : goal.returns-in-Err-TooLong
 returns-in-Err-TooLong g c =
     let named : command_of c.args.words.now ≡ Some c.in-Some.command = search rules in
     let kept : g.S.Source.faults c.read_all.new.source ≡ g.S.Source.faults c.args.source.now = search rules in
-    let long : IfSome (g.S.Source.left c.args.source.now) (λ bytes. MAX_INPUT < length bytes) = search rules in
+    let long : IfSome (g.S.Source.left c.args.source.now) (λ bytes. max_input < length bytes) = search rules in
     finished c.args.words.now (record { left = g.S.Source.left c.args.source.now; read_faults = g.S.Source.faults c.args.source.now; held = g.K.Sink.held c.args.sink.now; write_faults = g.K.Sink.faults c.args.sink.now })
     (record { left = g.S.Source.left c.read_all.new.source; read_faults = g.S.Source.faults c.read_all.new.source; held = g.K.Sink.held c.finish-in-Err-TooLong.new.sink; write_faults = g.K.Sink.faults c.finish-in-Err-TooLong.new.sink })
     status.Limit (refusal (codes "limit input")) c.finish-in-Err-TooLong.result
@@ -45,7 +45,7 @@ returns g c =
     let kept : g.S.Source.faults c.read_all.new.source ≡ g.S.Source.faults c.args.source.now = search rules in
     let taken : Consumes (g.S.Source.left c.args.source.now) (g.S.Source.left c.read_all.new.source) c.in-Ok.input = search rules in
     let end : IsAtEnd (g.S.Source.left c.read_all.new.source) = search rules in
-    let within : length c.in-Ok.input ≤ MAX_INPUT = search rules in
+    let within : length c.in-Ok.input ≤ max_input = search rules in
     let found : c.in-Ok-answer_to.found ≡ answer_within c.in-Some.command c.in-Ok.input = search rules in
     let text : c.as_slice-in-Ok-answer_to.result.now ≡ c.in-Ok-answer_to.found.text = search rules in
     let is : answer c.in-Ok-answer_to.found.status c.as_slice-in-Ok-answer_to.result.now ≡ answer_within c.in-Some.command c.in-Ok.input =

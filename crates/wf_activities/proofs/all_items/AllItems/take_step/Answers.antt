@@ -1,7 +1,7 @@
 use Rattle.std.proofs.Common.{◌≡◌, ℕ, ◌+◌, ◌<◌, ◌++◌, List, [], length, map, get_or, sym, ◌∙◌, ap, subst, arith}
 use Rattle.std.specs.List.{All}
 use Rattle.std.specs.Vec.{with_items}
-use Rattle.wf_model.specs.declared.limits.TheConstants.{MAX_ACTS}
+use Rattle.wf_model.specs.Limits.{max_acts}
 use Rattle.wf_model.specs.declared.ids.ActId.{ActId}
 use Rattle.wf_semantics.specs.Items.{Item}
 use Rattle.wf_semantics.specs.Run.{completions_at}
@@ -30,7 +30,7 @@ grow-requires-clause-tables c =
 
 pub grow-requires-clause-small : goal.grow-requires-clause-small
 grow-requires-clause-small c =
-    subst (λ (l : List (List ActId)). All (λ (ids : List ActId). All (λ (a : ActId). a.0 < MAX_ACTS) ids) l) (sym (c.as_slice-2.ensures ∙ ap (λ (s : Stock). s.acts) c.self.view_is))
+    subst (λ (l : List (List ActId)). All (λ (ids : List ActId). All (λ (a : ActId). a.0 < max_acts) ids) l) (sym (c.as_slice-2.ensures ∙ ap (λ (s : Stock). s.acts) c.self.view_is))
     (small_tables c.args.chart.now c.args.self.now c.requires.accepted c.requires.of)
 
 pub grow-requires-clause-room : goal.grow-requires-clause-room

@@ -122,24 +122,3 @@ pub fn tokens(alloc: Global, text: &[u8]) -> Result<List<Token>, LexFault>
     }
     Ok(List::from_vec(found))
 }
-
-#[cfg(test)]
-mod tests {
-    use crate::{LexFault, Token, TokenKind, tokens};
-    use std::test::Fail;
-
-    #[test]
-    fn cuts_a_text(rt: HostRuntime) -> Result<(), Fail> {
-        let found = tokens(rt.alloc(), b"or R1 := 7# x\n\"t\"")?;
-        assert_eq!(rt; found.len(), 5);
-        let last = Token {
-            kind: TokenKind::Text,
-            start: 14,
-            end: 17,
-        };
-        assert_eq!(rt; found.as_slice()[4], last);
-        let refused = tokens(rt.alloc(), b"a \"b\n\"").err();
-        assert_eq!(rt; refused, Some(LexFault::BadByte { at: 2 }));
-        Ok(())
-    }
-}

@@ -1,6 +1,6 @@
 //! Actions of transitions.
 ghost use Rattle.std.specs.Prelude.{length};
-ghost use Rattle.wf_cursor.specs.Input.{Reads};
+ghost use Rattle.wf_cursor.specs.Input.{Reads, ReadsExactly};
 ghost use Rattle.wf_text.specs.Transitions as spec;
 
 use std::alloc::Global;
@@ -20,7 +20,7 @@ fn assigned(alloc: Global, cursor: &mut Cursor<'_>) -> Result<Action, TextFault>
 
 #[tactic(auto, unfolding(crate::specs::Transitions::raised))]
 fn raised(cursor: &mut Cursor<'_>) -> Result<Action, TextFault>
-    ensures { Reads (spec.raised cursor.old) result cursor.new }
+    ensures { ReadsExactly (spec.raised cursor.old) result cursor.new }
 {
     cursor.take();
     let event = cursor.event()?;
@@ -29,7 +29,7 @@ fn raised(cursor: &mut Cursor<'_>) -> Result<Action, TextFault>
 
 #[tactic(auto, unfolding(crate::specs::Transitions::started))]
 fn started(cursor: &mut Cursor<'_>) -> Result<Action, TextFault>
-    ensures { Reads (spec.started cursor.old) result cursor.new }
+    ensures { ReadsExactly (spec.started cursor.old) result cursor.new }
 {
     cursor.take();
     let act = cursor.activity()?;

@@ -1,6 +1,6 @@
 //! Declarations.
 ghost use Rattle.std.specs.Prelude.{length};
-ghost use Rattle.wf_cursor.specs.Input.{Reads};
+ghost use Rattle.wf_cursor.specs.Input.{Reads, ReadsExactly};
 ghost use Rattle.wf_text.specs.Declarations as spec;
 
 use std::alloc::Global;
@@ -22,7 +22,7 @@ fn unit(alloc: Global, cursor: &mut Cursor<'_>) -> Result<(), TextFault>
 
 #[tactic(auto, unfolding(crate::specs::Declarations::placed))]
 fn placed(cursor: &mut Cursor<'_>) -> Result<Option<UnitId>, TextFault>
-    ensures { Reads (spec.placed cursor.old) result cursor.new }
+    ensures { ReadsExactly (spec.placed cursor.old) result cursor.new }
 {
     if cursor.eat(Piece::At) {
         Ok(Some(cursor.unit()?))

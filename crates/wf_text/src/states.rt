@@ -1,6 +1,6 @@
 //! States.
 ghost use Rattle.std.specs.Prelude.{◌≡◌, Some, length};
-ghost use Rattle.wf_cursor.specs.Input.{Reads, piece};
+ghost use Rattle.wf_cursor.specs.Input.{Reads, ReadsExactly, piece};
 ghost use Rattle.wf_text.specs.States as spec;
 
 use std::alloc::Global;
@@ -21,7 +21,7 @@ fn kind_of(piece: Option<Piece>) -> Option<Kind>
 
 #[tactic(auto, unfolding(crate::specs::States::kind))]
 fn kind(cursor: &mut Cursor<'_>) -> Result<Kind, TextFault>
-    ensures { Reads (spec.kind cursor.old) result cursor.new }
+    ensures { ReadsExactly (spec.kind cursor.old) result cursor.new }
 {
     match kind_of(cursor.peek()) {
         Some(kind) => {

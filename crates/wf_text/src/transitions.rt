@@ -1,6 +1,6 @@
 //! Transitions.
 ghost use Rattle.std.specs.Prelude.{length};
-ghost use Rattle.wf_cursor.specs.Input.{Reads};
+ghost use Rattle.wf_cursor.specs.Input.{Reads, ReadsExactly};
 ghost use Rattle.wf_text.specs.Transitions as spec;
 
 use crate::actions::effects;
@@ -11,7 +11,7 @@ use wf_phrase::expr;
 
 #[tactic(auto, unfolding(crate::specs::Transitions::caused))]
 fn caused(cursor: &mut Cursor<'_>) -> Result<Option<EventId>, TextFault>
-    ensures { Reads (spec.caused cursor.old) result cursor.new }
+    ensures { ReadsExactly (spec.caused cursor.old) result cursor.new }
 {
     if cursor.eat(Piece::On) {
         Ok(Some(cursor.event()?))

@@ -3,13 +3,12 @@ ghost use Rattle.std.specs.Prelude.{◌≡◌, ◌<◌, ◌^◌, IsTrue, length}
 ghost use Rattle.wf_check.specs.Limited.{AreFew, has_few_actions};
 ghost use Rattle.wf_check.specs.Firsts.{first_from};
 ghost use Rattle.wf_check.specs.Sorted as sorted;
-ghost use Rattle.wf_model.specs.Sorts as sorts;
 ghost use Rattle.wf_model.specs.Accepted as spec;
 
 use crate::sorts::alike;
 use crate::{CheckFault, TypePlace};
 use wf_expr::type_of;
-use wf_model::{Action, Chart, Expr, Sort, TransId, Transition, VarId};
+use wf_model::{Action, Chart, Expr, Sort, TransId, Transition};
 
 fn has_sort(chart: &Chart, e: &Expr, sort: Sort) -> bool
     ensures { result ≡ spec.has_sort chart.now e.now sort }
@@ -17,15 +16,6 @@ fn has_sort(chart: &Chart, e: &Expr, sort: Sort) -> bool
     match type_of(e, chart) {
         Ok(other) => alike(sort, other),
         Err(_) => false,
-    }
-}
-
-fn var_sort(chart: &Chart, x: VarId) -> Option<Sort>
-    ensures { result ≡ sorts.var_sort chart.now x.0 }
-{
-    match chart.vars.get(x.0 as usize) {
-        Some(var) => Some(var.sort),
-        None => None,
     }
 }
 
@@ -42,7 +32,7 @@ fn is_sorted_action(chart: &Chart, action: &Action) -> bool
     ensures { result ≡ spec.is_sorted_action chart.now action.now }
 {
     match action {
-        Action::Assign(x, value) => match var_sort(chart, *x) {
+        Action::Assign(x, value) => match chart.var_sort(*x) {
             Some(sort) => has_sort(chart, value, sort),
             None => true,
         },

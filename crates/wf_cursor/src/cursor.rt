@@ -1,5 +1,6 @@
 //! A cursor over the tokens of a text.
 ghost use Rattle.std.specs.Prelude.{◌≡◌, ◌≤◌, ◌<◌, ◌^◌, true, None, length, drop, slice_range, IfOk, IfSome, OnOk, OnErr};
+ghost use Rattle.wf_model.specs.Limits.{max_tokens};
 ghost use Rattle.wf_cursor.specs.Input as spec;
 ghost use Rattle.wf_cursor.specs.Input.{Reads, ReadsExactly, HasRoom, chart_with};
 

@@ -3,8 +3,8 @@ ghost use Rattle.std.specs.Prelude.{◌≡◌, ◌≤◌, length, take_while, If
 ghost use Rattle.wf_model.specs.Names as names;
 ghost use Rattle.wf_model.specs.Txt as txt;
 ghost use Rattle.wf_lex.specs.Lex as spec;
-ghost use Rattle.wf_lex.specs.Gives.{Gives};
 ghost use Rattle.wf_model.specs.Limits.{max_input, max_tokens};
+ghost use Rattle.wf_model.specs.Steps.{Gives};
 
 use crate::{LexFault, Token, TokenKind};
 use std::alloc::Global;
@@ -88,7 +88,7 @@ fn token_at(first: u8, bytes: &[u8]) -> Option<(TokenKind, usize)>
 #[tactic(auto, unfolding(crate::specs::Lex::tokens_of))]
 pub fn tokens(alloc: Global, text: &[u8]) -> Result<List<Token>, LexFault>
     requires { length text.now ≤ max_input }
-    ensures exact { Gives result (spec.tokens_of text.now) }
+    ensures exact { Gives LexFault.NoMemory result (spec.tokens_of text.now) }
     ensures few { IfOk result (λ found. length found ≤ max_tokens) }
 {
     let mut found = Vec::new(alloc);

@@ -2,8 +2,8 @@
 ghost use Rattle.std.specs.Prelude.{◌≡◌, ◌≤◌, length};
 ghost use Rattle.wf_cursor.specs.Input.{Reads, start_of};
 ghost use Rattle.wf_text.specs.Text as spec;
-ghost use Rattle.wf_text.specs.Text.{Gives};
 ghost use Rattle.wf_model.specs.Limits.{max_input, max_tokens};
+ghost use Rattle.wf_model.specs.Steps.{Gives};
 
 use crate::ChartFault;
 use crate::chart_fault::placed_fault;

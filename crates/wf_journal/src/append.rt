@@ -2,8 +2,9 @@
 ghost use Rattle.std.specs.Prelude.{◌≡◌, ◌+◌, ◌≤◌, ◌<◌, ◌∷◌, [], ℕ, List, Some, OnOk, IsOk, IsErrOf, is_some, length, vec_capacity};
 ghost use Rattle.wf_disk.specs.Disk.{HasCause, IsSafeFor, LeavesOnly};
 ghost use Rattle.wf_model.specs.Limits.{max_body, max_journal};
-ghost use Rattle.wf_journal.specs.declared.frame.TheConstants.{HEADER};
-ghost use Rattle.wf_journal.specs.Frames.{bodies_of, IsAsBefore, IsBeforeOrAfter};
+ghost use Rattle.wf_journal.specs.Bytes.{appended};
+ghost use Rattle.wf_journal.specs.Plan.{MeetsPlan};
+ghost use Rattle.wf_journal.specs.Frames.{header, bodies_of, IsAsBefore, IsBeforeOrAfter};
 ghost use Rattle.wf_journal.specs.Journal.{IsSettled, IsLeft};
 
 use crate::frame::{OPEN, pack};
@@ -21,7 +22,9 @@ pub fn put<D: Disk>(
     requires fits { place + length body.now + 6 ≤ max_journal }
     requires settled { IsSettled (D.told disk.old) place }
 
-    ensures ok { OnOk result (IsLeft (D.told disk.old) (D.told disk.new) (place + (HEADER + length body.now)) (body.now ∷ [])) }
+    ensures ok { OnOk result (IsLeft (D.told disk.old) (D.told disk.new) (place + (header + length body.now)) (body.now ∷ [])) }
+    ensures bytes { OnOk result ((file : List ℕ) → (D.told disk.old).image ≡ Some file →
+        (D.told disk.new).image ≡ Some (appended file place body.now)) }
     ensures no_memory { IsErrOf result WriteRefused.NoMemory → IsLeft (D.told disk.old) (D.told disk.new) place [] }
     ensures any_moment { (file : List ℕ) → (D.told disk.old).image ≡ Some file →
         LeavesOnly (D.told disk.old) (D.told disk.new) (IsBeforeOrAfter (bodies_of file) body.now) }
@@ -30,8 +33,9 @@ pub fn put<D: Disk>(
     ensures tells { is_some (D.told disk.new).image ≡ is_some (D.told disk.old).image }
     ensures four { OnOk result ((D.told disk.new).clock ≡ (D.told disk.old).clock + 4) }
     ensures two { IsErrOf result WriteRefused.NoMemory → (D.told disk.new).clock ≤ (D.told disk.old).clock + 2 }
-    ensures good { IsSafeFor (D.told disk.old) 4 → (D.told disk.old).has_room 2 (length body.now + 6) → HEADER + length body.now ≤ vec_capacity frame.old → IsOk result }
-    ensures enough { (D.told disk.old).has_room 2 (length body.now + 6) → HEADER + length body.now ≤ vec_capacity frame.old → IsErrOf result WriteRefused.NoMemory → ⊥ }
+    ensures plan { MeetsPlan (D.told disk.old) (D.told disk.new) 4 (IsErrOf result WriteRefused.Failed) }
+    ensures good { IsSafeFor (D.told disk.old) 4 → (D.told disk.old).has_room 2 (length body.now + 6) → header + length body.now ≤ vec_capacity frame.old → IsOk result }
+    ensures enough { (D.told disk.old).has_room 2 (length body.now + 6) → header + length body.now ≤ vec_capacity frame.old → IsErrOf result WriteRefused.NoMemory → ⊥ }
     ensures capacity { vec_capacity frame.old ≤ vec_capacity frame.new }
     ensures cause { HasCause (D.told disk.old) (D.told disk.new) (IsErrOf result WriteRefused.Failed) }
 {

@@ -1,8 +1,9 @@
 //! A journal: bodies that were appended in order, each on the disk before it is acknowledged.
-ghost use Rattle.std.specs.Prelude.{◌≡◌, ◌⊎◌, ◌+◌, ◌≤◌, ◌<◌, ◌∷◌, [], ℕ, List, true, false, nat_lt, if◌then◌else◌, Option, None, Some, IfSome, is_some, IsNone, IfOk, IfErr, IsOk, OnOk, IsErr, IsErrOf, length};
-ghost use Rattle.wf_disk.specs.Disk.{HasCause, IsSafeFor, LeavesOnly, IsSame};
-ghost use Rattle.wf_journal.specs.declared.frame.TheConstants.{HEADER};
-ghost use Rattle.wf_journal.specs.Frames.{bodies_of, is_broken, end_of, IsAsBefore, IsBeforeOrAfter};
+ghost use Rattle.std.specs.Prelude.{◌≡◌, ◌≢◌, ◌⊎◌, ◌+◌, ◌≤◌, ◌<◌, ◌∷◌, [], ℕ, List, true, false, nat_lt, if◌then◌else◌, Option, None, Some, IfSome, OnSome, is_some, IsNone, IfOk, IfErr, IsOk, OnOk, IsErr, IsErrOf, length};
+ghost use Rattle.wf_disk.specs.Disk.{HasCause, IsDown, IsSafeFor, LeavesOnly, IsSame};
+ghost use Rattle.wf_journal.specs.Bytes.{appended};
+ghost use Rattle.wf_journal.specs.Plan.{WentOn, MeetsPlan, StartMeetsPlan, start_strokes};
+ghost use Rattle.wf_journal.specs.Frames.{closed_gate, header, bodies_of, is_broken, end_of, IsAsBefore, IsBeforeOrAfter};
 ghost use Rattle.wf_journal.specs.Journal.{IsLeft, HasBodiesOf, KeepsBodies, IsPlace, IsRead};
 ghost use Rattle.wf_journal.specs.Faults.{refusal_of};
 ghost use Rattle.wf_journal.specs.State.{IsReady};
@@ -47,13 +48,13 @@ pub struct Journal<D: Disk> {
 impl<D: Disk> Model for Journal<D> {
     ghost use Rattle.std.specs.Prelude.{◌-◌, vec_capacity};
     ghost use Rattle.wf_journal.specs.State.{Kept, kept_code, IsReady};
-    ghost use Rattle.wf_journal.specs.declared.frame.TheConstants.{HEADER};
+    ghost use Rattle.wf_journal.specs.Frames.{header};
 
     ghost Value = { Kept D };
 
     ghost coded = { kept_code D.code };
 
-    ghost view = { λ it. record { disk = it.disk; place = it.place; failed = it.failed; room = vec_capacity it.frame - HEADER } };
+    ghost view = { λ it. record { disk = it.disk; place = it.place; failed = it.failed; room = vec_capacity it.frame - header } };
 
     ghost invariant = { λ it. IsReady (D.told it.disk) it.place it.failed };
 }
@@ -77,7 +78,14 @@ impl<D: Disk> Journal<D> {
             LeavesOnly (D.told disk) (D.told refused.disk) (HasBodiesOf (D.told disk).may_leave)) }
         ensures strokes { IfOk result (λ journal. (file : List ℕ) → (D.told disk).image ≡ Some file →
             (D.told journal.disk).clock ≡ (D.told disk).clock + (if nat_lt (length file) 2 then 3 else 1)) }
-        ensures later { IfOk result (λ journal. (D.told disk).faults ≤ (D.told journal.disk).faults) }
+        ensures made { IfOk result (λ journal. (file : List ℕ) → (D.told disk).image ≡ Some file → length file < 2 →
+            (D.told journal.disk).image ≡ Some (closed_gate ∷ [])) }
+        ensures one { IfErr result (λ refused. refused.fault ≢ StartFault.DiskFailed → (D.told refused.disk).clock ≡ (D.told disk).clock + 1) }
+        ensures plan { IfOk result (λ journal. WentOn (D.told disk) (D.told journal.disk)) }
+        ensures plan_refused { IfErr result (λ refused.
+            StartMeetsPlan (D.told disk) (D.told refused.disk) (refused.fault ≡ StartFault.DiskFailed)) }
+        ensures safe { IsSafeFor (D.told disk) (start_strokes (D.told disk).image + 1) → IfErr result (λ refused. refused.fault ≢ StartFault.DiskFailed) }
+        ensures faults { IfOk result (λ journal. (D.told journal.disk).faults ≡ (D.told disk).faults) }
         ensures cause { IfErr result (λ refused. HasCause (D.told disk) (D.told refused.disk) (refused.fault ≡ StartFault.DiskFailed)) }
     {
         let mut disk = disk;
@@ -119,7 +127,9 @@ impl<D: Disk> Journal<D> {
         ensures other { IsNone (refusal_of self.old.failed self.old.place (length body.now)) → IfErr result (λ fault. (fault ≡ AppendFault.NoMemory) ⊎ (fault ≡ AppendFault.DiskFailed)) }
         ensures ok { OnOk result (IsLeft (D.told self.old.disk) (D.told self.new.disk) self.new.place (body.now ∷ [])) }
         ensures no_memory { IsErrOf result AppendFault.NoMemory → IsLeft (D.told self.old.disk) (D.told self.new.disk) self.new.place [] }
-        ensures place { OnOk result (self.new.place ≡ self.old.place + (HEADER + length body.now)) }
+        ensures bytes { OnOk result ((file : List ℕ) → (D.told self.old.disk).image ≡ Some file →
+            (D.told self.new.disk).image ≡ Some (appended file self.old.place body.now)) }
+        ensures place { OnOk result (self.new.place ≡ self.old.place + (header + length body.now)) }
         ensures place_kept { IsErr result → self.new.place ≡ self.old.place }
         ensures tells { is_some (D.told self.new.disk).image ≡ is_some (D.told self.old.disk).image }
 
@@ -132,6 +142,8 @@ impl<D: Disk> Journal<D> {
 
         ensures four { OnOk result ((D.told self.new.disk).clock ≡ (D.told self.old.disk).clock + 4) }
         ensures two { IsErrOf result AppendFault.NoMemory → (D.told self.new.disk).clock ≤ (D.told self.old.disk).clock + 2 }
+        ensures plan { MeetsPlan (D.told self.old.disk) (D.told self.new.disk) 4 (IsErrOf result AppendFault.DiskFailed) }
+        ensures safe { IsSafeFor (D.told self.old.disk) 4 → IsErrOf result AppendFault.DiskFailed → ⊥ }
         ensures good { IsNone (refusal_of self.old.failed self.old.place (length body.now)) → IsSafeFor (D.told self.old.disk) 4 →
             (D.told self.old.disk).has_room 2 (length body.now + 6) → length body.now ≤ self.old.room → IsOk result }
         ensures enough { length body.now ≤ self.old.room → (D.told self.old.disk).has_room 2 (length body.now + 6) → IsErrOf result AppendFault.NoMemory → ⊥ }
@@ -161,10 +173,14 @@ impl<D: Disk> Journal<D> {
     /// for which the memory that `into` has is used again.
     pub fn read(&mut self, place: u64, into: &mut Bytes) -> Result<Option<u64>, ReadFault>
         ensures read { IfOk result (λ next. (file : List ℕ) → (D.told self.old.disk).image ≡ Some file → IsPlace file place → IsRead file place next into.new) }
+        ensures next { IfOk result (λ found. IfSome found (λ next. next ≡ place + (header + length into.new))) }
+        ensures some { IfOk result (λ found. OnSome found (1 ≤ length into.new)) }
         ensures none { IfOk result (λ next. next ≡ None → into.new ≡ []) }
         ensures empty { IsErr result → into.new ≡ [] }
         ensures same { IsSame (D.told self.old.disk) (D.told self.new.disk) }
         ensures kept { self.new ≡ record self.old { disk = self.new.disk } }
+        ensures down { IsErrOf result ReadFault.DiskFailed → IsDown (D.told self.old.disk) }
+        ensures safe { IsSafeFor (D.told self.old.disk) 1 → IsErrOf result ReadFault.DiskFailed → ⊥ }
         ensures cause { HasCause (D.told self.old.disk) (D.told self.new.disk) (IsErrOf result ReadFault.DiskFailed) }
     {
         let mut body = replace(into, Items::new(self.alloc)).into_vec();

@@ -1,8 +1,8 @@
 //! The walk over the frames of a disk.
-ghost use Rattle.std.specs.Prelude.{◌≡◌, ◌+◌, ◌≤◌, ◌<◌, ℕ, List, Option, None, Some, IfOk, IfErr, IsErr, IsErrOf, true, false, [], nat_lt, if◌then◌else◌, length, drop};
-ghost use Rattle.wf_disk.specs.Disk.{IsSame, HasCause, LeavesOnly};
-ghost use Rattle.wf_journal.specs.declared.frame.TheConstants.{HEADER};
-ghost use Rattle.wf_journal.specs.Frames.{IsAtRest, end_of, is_broken};
+ghost use Rattle.std.specs.Prelude.{◌≡◌, ◌≢◌, ◌∷◌, IfSome, OnSome, ◌+◌, ◌≤◌, ◌<◌, ℕ, List, Option, None, Some, IfOk, IfErr, IsErr, IsErrOf, true, false, [], nat_lt, if◌then◌else◌, length, drop};
+ghost use Rattle.wf_disk.specs.Disk.{IsSame, IsDown, HasCause, LeavesOnly};
+ghost use Rattle.wf_journal.specs.Plan.{StartMeetsPlan};
+ghost use Rattle.wf_journal.specs.Frames.{closed_gate, header, IsAtRest, end_of, is_broken};
 ghost use Rattle.wf_journal.specs.Journal.{IsLeft, HasBodiesOf, KeepsBodies, IsPlace, IsRead};
 ghost use Rattle.wf_journal.specs.StepAt.{step_of};
 
@@ -13,7 +13,7 @@ use wf_model::Failed;
 
 /// What stands at a place of the walk: a closed gate, an open gate with no whole frame behind it, or a frame and the
 /// place behind it.
-#[derive(Clone, Copy, Debug, PartialEq, Eq)]
+#[derive(Clone, Copy)]
 pub enum Step {
     Closed,
     Broken,
@@ -25,8 +25,9 @@ pub fn step_at<D: Disk>(disk: &mut D, at: u64, size: u64) -> Result<Step, Failed
     requires within { at < size }
     requires size { (file : List ℕ) → (D.told disk.old).image ≡ Some file → size ≡ length file }
     ensures step { IfOk result (λ step. (file : List ℕ) → (D.told disk.old).image ≡ Some file → step ≡ step_of at (drop at file)) }
-    ensures next { IfOk result (λ step. (next : ℕ) → step ≡ Step.Next next → (at + HEADER < next × next < size)) }
+    ensures next { IfOk result (λ step. (next : ℕ) → step ≡ Step.Next next → (at + header < next × next < size)) }
     ensures same { IsSame (D.told disk.old) (D.told disk.new) }
+    ensures down { IsErr result → IsDown (D.told disk.old) }
     ensures cause { HasCause (D.told disk.old) (D.told disk.new) (IsErr result) }
 {
     let mut gate = [0u8; 1];
@@ -54,6 +55,7 @@ pub fn walk<D: Disk>(disk: &mut D, size: u64) -> Result<u64, StartFault>
     ensures rests { IfOk result (λ at. (file : List ℕ) → (D.told disk.old).image ≡ Some file → IsAtRest file at) }
     ensures bad { IfErr result (λ e. (at : ℕ) → e ≡ StartFault.BadFrame at → (file : List ℕ) → (D.told disk.old).image ≡ Some file → (is_broken file ≡ true) × (end_of file ≡ at)) }
     ensures memory { IsErrOf result StartFault.NoMemory → ⊥ }
+    ensures down { IsErrOf result StartFault.DiskFailed → IsDown (D.told disk.old) }
     ensures same { IsSame (D.told disk.old) (D.told disk.new) }
     ensures cause { HasCause (D.told disk.old) (D.told disk.new) (IsErrOf result StartFault.DiskFailed) }
 {
@@ -75,8 +77,12 @@ pub fn find_end<D: Disk>(disk: &mut D) -> Result<u64, StartFault>
     ensures bad { IfErr result (λ e. (at : ℕ) → e ≡ StartFault.BadFrame at → (file : List ℕ) → (D.told disk.old).image ≡ Some file →
         (2 ≤ length file × (is_broken file ≡ true) × (end_of file ≡ at) × ((D.told disk.new).image ≡ Some file))) }
     ensures any_moment { (file : List ℕ) → (D.told disk.old).image ≡ Some file → LeavesOnly (D.told disk.old) (D.told disk.new) (HasBodiesOf (D.told disk.old).may_leave) }
+    ensures made { IfOk result (λ place. (file : List ℕ) → (D.told disk.old).image ≡ Some file → length file < 2 →
+        (D.told disk.new).image ≡ Some (closed_gate ∷ [])) }
     ensures strokes { IfOk result (λ _. (file : List ℕ) → (D.told disk.old).image ≡ Some file →
         (D.told disk.new).clock ≡ (D.told disk.old).clock + (if nat_lt (length file) 2 then 3 else 1)) }
+    ensures one { IfErr result (λ e. e ≢ StartFault.DiskFailed → (D.told disk.new).clock ≡ (D.told disk.old).clock + 1) }
+    ensures plan { StartMeetsPlan (D.told disk.old) (D.told disk.new) (IsErrOf result StartFault.DiskFailed) }
     ensures cause { HasCause (D.told disk.old) (D.told disk.new) (IsErrOf result StartFault.DiskFailed) }
 {
     disk.sync()?;
@@ -96,8 +102,11 @@ pub fn read_frame<D: Disk>(
     body: &mut Vec<u8>,
 ) -> Result<Option<u64>, ReadFault>
     ensures read { IfOk result (λ next. (file : List ℕ) → (D.told disk.old).image ≡ Some file → IsPlace file place → IsRead file place next body.new.items) }
+    ensures next { IfOk result (λ found. IfSome found (λ next. next ≡ place + (header + length body.new.items))) }
+    ensures some { IfOk result (λ found. OnSome found (1 ≤ length body.new.items)) }
     ensures none { IfOk result (λ next. next ≡ None → body.new.items ≡ []) }
     ensures same { IsSame (D.told disk.old) (D.told disk.new) }
+    ensures down { IsErrOf result ReadFault.DiskFailed → IsDown (D.told disk.old) }
     ensures cause { HasCause (D.told disk.old) (D.told disk.new) (IsErrOf result ReadFault.DiskFailed) }
 {
     body.clear();

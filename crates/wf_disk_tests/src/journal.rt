@@ -107,6 +107,7 @@ fn appended(rt: &HostRuntime, stroke: u32, what: Arm) -> Result<(bool, bool), Fa
     let failed = journal.append(&HEAD) == Err(AppendFault::DiskFailed);
     let mut disk = journal.close();
     disk.revive();
+    disk.disarm();
     let mut again = journal_on(rt, disk)?;
     let mut body = List::new(rt.alloc());
     let next = again.read(0, &mut body)?;

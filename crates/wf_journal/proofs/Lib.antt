@@ -6,6 +6,6 @@ mod Starts
 mod Refusals
 mod StepLaws
 mod Spelled
-mod Plans
+pub mod Plans
 mod Walks
 mod StartPlans

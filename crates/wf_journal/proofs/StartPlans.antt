@@ -7,7 +7,8 @@ use Rattle.wf_disk.specs.declared.disk.WriteRefused.TheVariants as write
 use Rattle.wf_journal.specs.declared.fault.StartFault.{StartFault}
 use Rattle.wf_journal.specs.declared.fault.StartFault.TheVariants as start
 use Rattle.wf_journal.specs.Faults.{start_fault}
-use Rattle.wf_journal.specs.Plan.{WentOn, Struck, IsFoundDown, StartMeetsPlan, start_strokes}
+use Rattle.wf_journal.specs.Plan.{WentOn, Struck, IsFoundDown, StartMeetsPlan}
+use Rattle.wf_journal.specs.Start.{start_strokes}
 use Rattle.wf_journal.proofs.Plans.{down_on, went_none, went_same, went_stroke, struck_here, not_struck}
 
 some_stroke : (image : Option (List ℕ)) → 1 ≤ start_strokes image

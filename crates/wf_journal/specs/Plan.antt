@@ -1,6 +1,7 @@
 -- What became of the strokes that a disk is to fail, after a call that makes several.
-use Rattle.std.specs.Prelude.{◌≡◌, ◌⊎◌, ℕ, ◌+◌, ◌<◌, ◌≤◌, nat_lt, if◌then◌else◌, List, length, Option, None, Some}
+use Rattle.std.specs.Prelude.{◌≡◌, ◌⊎◌, ℕ, ◌+◌, ◌<◌, ◌≤◌, List, Some}
 use Rattle.wf_disk.specs.Disk.{Told, KeepsPlan, GoesOnOrStops, IsDown, last_count}
+use Rattle.wf_journal.specs.Start.{start_strokes}
 
 -- each stroke of the call was done: none of them was to fail, if the disk tells its image, and the plan is kept
 pub record WentOn (old new : Told) : Type 0 where
@@ -24,11 +25,6 @@ pub record Struck (old new : Told) (most : ℕ) : Type 0 where
 pub record MeetsPlan (old new : Told) (most : ℕ) (failed : Type 0) : Type 0 where
   pub done : (failed → ⊥) → WentOn old new
   pub struck : failed → Struck old new most
-
--- how many strokes a start makes at most: it makes a new journal on a disk of fewer than two bytes
-abbrev pub start_strokes : Option (List ℕ) → ℕ
-start_strokes None = 3
-start_strokes (Some file) = if nat_lt (length file) 2 then 3 else 1
 
 -- the first sync of a start was done, and then a size or a read failed, since the disk is down
 pub record IsFoundDown (old new : Told) : Type 0 where

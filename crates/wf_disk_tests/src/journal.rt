@@ -90,7 +90,7 @@ fn bodies_are_written_and_read(rt: HostRuntime) -> Result<(), Fail> {
     assert_eq!(rt; journal.read(30, &mut body)?, None);
     journal.arm(1, Arm::Fail);
     journal.disarm();
-    assert!(rt; !journal.disk().stopped());
+    assert!(rt; !journal.is_failed() && !journal.disk().stopped());
     let mut disk = journal.close();
     let two: &[u8] = &[
         1, 0, 0, 0, 8, 0x48, 1, 3, 0x74, 0x77, 0x6F, 1, 0x61, 1, 0, 0, 0, 0x0C, 0x41, 0, 0, 0, 0,

@@ -9,3 +9,4 @@ mod Spelled
 pub mod Plans
 mod Walks
 mod StartPlans
+pub mod Answered

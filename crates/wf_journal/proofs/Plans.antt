@@ -13,9 +13,6 @@ down_back old new same down n after = same.plan.no_other n (down n (omega (arith
 pub down_on : (old new : Told) → IsSame old new → IsDown old → IsDown new
 down_on old new same down n after = same.plan.kept n (down n (omega (arith, after, same.clock)))
 
-pub not_down : (disk : Told) (strokes : ℕ) → 1 ≤ strokes → IsSafeFor disk strokes → IsDown disk → ⊥
-not_down disk strokes some safe down = safe (disk.clock + 1) (omega arith) (omega (arith, some)) (down (disk.clock + 1) (omega arith))
-
 -- STROKES THAT WERE DONE
 pub went_none : (disk : Told) → WentOn disk disk
 went_none disk = record { later = omega arith; safe = λ file is n after within fails. absurd (omega (arith, after, within)); plan = plan_same disk }
@@ -95,9 +92,6 @@ met_as old new most F G to from met = record { done = λ none. met.done (λ fail
 
 -- THE FOUR STROKES OF AN APPEND
 module _ (t0 t1 : Told) (ok1 f1 : Type 0) (s1 : Strikes t0 t1 ok1 f1) (p1 : GoesToPlan t0 t1 ok1 f1) where
-  pub struck1 : f1 → Struck t0 t1 4
-  struck1 fails = struck_here t0 t0 t1 4 ok1 f1 (went_none t0) s1 p1 fails (omega arith)
-
   module _ (d1 : ok1) (tells1 : is_some t1.image ≡ is_some t0.image) where
     pub went1 : WentOn t0 t1
     went1 = went_stroke t0 t0 t1 ok1 f1 (went_none t0) refl s1 p1 d1
@@ -106,9 +100,6 @@ module _ (t0 t1 : Told) (ok1 f1 : Type 0) (s1 : Strikes t0 t1 ok1 f1) (p1 : Goes
     clock1 = s1.done d1
 
     module _ (t2 : Told) (ok2 f2 : Type 0) (s2 : Strikes t1 t2 ok2 f2) (p2 : GoesToPlan t1 t2 ok2 f2) where
-      pub struck2 : f2 → Struck t0 t2 4
-      struck2 fails = struck_here t0 t1 t2 4 ok2 f2 went1 s2 p2 fails (omega (arith, clock1))
-
       module _ (d2 : ok2) (image2 : t2.image ≡ t1.image) where
         tells2 : is_some t2.image ≡ is_some t0.image
         tells2 = ap (λ (o : Option (List ℕ)). is_some o) image2 ∙ tells1
@@ -133,6 +124,3 @@ module _ (t0 t1 : Told) (ok1 f1 : Type 0) (s1 : Strikes t0 t1 ok1 f1) (p1 : Goes
             module _ (t4 : Told) (ok4 f4 : Type 0) (s4 : Strikes t3 t4 ok4 f4) (p4 : GoesToPlan t3 t4 ok4 f4) where
               pub struck4 : f4 → Struck t0 t4 4
               struck4 fails = struck_here t0 t3 t4 4 ok4 f4 went3 s4 p4 fails (omega (arith, clock3))
-
-              pub went4 : ok4 → WentOn t0 t4
-              went4 d4 = went_stroke t0 t3 t4 ok4 f4 went3 (tells3 ∙ tells2) s4 p4 d4

@@ -1,6 +1,6 @@
 -- What a journal's file is before, between and after the strokes of an append.
-use Rattle.std.proofs.Common.{◌≡◌, inl, inr, ℕ, suc, ◌+◌, ◌≤◌, ◌<◌, true, false, ◌==◌, List, [], ◌∷◌, ◌++◌, length, take, drop, get_or, refl, sym, ◌∙◌, ap, subst, arith, length-append, length-take-le, take-append-drop, rules}
-use Rattle.std.proofs.lemmas.List.{take_at, drop_more, append-nil}
+use Rattle.std.proofs.Common.{◌≡◌, inl, inr, ℕ, suc, ◌+◌, ◌≤◌, ◌<◌, true, false, ◌==◌, List, [], ◌∷◌, ◌++◌, length, take, get_or, refl, sym, ◌∙◌, ap, subst, arith, length-append, length-take-le, rules}
+use Rattle.std.proofs.lemmas.List.{take_at, append-nil}
 use Rattle.std.proofs.lemmas.Bool.{cond-true}
 use Rattle.std.proofs.lemmas.Nat.{from_be_bytes-to_be_bytes_4}
 use Rattle.std.specs.Int.{w32, to_be_bytes, from_be_bytes}
@@ -95,9 +95,6 @@ module _ (file : List ℕ) (place : ℕ) (rests : IsAtRest file place) where
 
   length-cut : (g : ℕ) (tail : List ℕ) → place < length (front ++ g ∷ tail)
   length-cut g tail = omega (arith, length-append front (g ∷ tail), length-front)
-
-  pub whole_file : file ≡ front ++ gate ∷ drop (place + 1) file
-  whole_file = sym (take-append-drop place file) ∙ ap (λ l. front ++ l) (drop_more file place 1 rests.within)
 
   -- behind a closed gate there may be anything
   pub closed_rests : (g : ℕ) (tail : List ℕ) → (g == 1) ≡ false → IsAtRest (front ++ g ∷ tail) place

@@ -1,7 +1,7 @@
 -- How a start meets the plan of its disk.
-use Rattle.std.proofs.Common.{◌≡◌, ◌≢◌, inl, inr, ⊎_elim, ℕ, ◌+◌, ◌≤◌, ◌<◌, nat_lt, Bool, true, false, if◌then◌else◌, List, length, Option, None, Some, IfSome, is_some, Result, Ok, Err, IsErrOf, IfErr, refl, sym, ◌∙◌, ap, subst, arith, rules}
+use Rattle.std.proofs.Common.{◌≡◌, ◌≢◌, inl, inr, ℕ, ◌+◌, ◌≤◌, ◌<◌, nat_lt, Bool, true, false, if◌then◌else◌, List, length, Option, None, Some, IfSome, is_some, Result, Ok, Err, IsErrOf, IfErr, refl, sym, ◌∙◌, ap, subst, arith, rules}
 use Rattle.std.proofs.lemmas.Bool.{cond-true}
-use Rattle.wf_disk.specs.Disk.{Told, IsDown, IsSafeFor, IsSame, Strikes, GoesToPlan}
+use Rattle.wf_disk.specs.Disk.{Told, IsDown, IsSame, Strikes, GoesToPlan}
 use Rattle.wf_disk.specs.declared.disk.WriteRefused.{WriteRefused}
 use Rattle.wf_disk.specs.declared.disk.WriteRefused.TheVariants as write
 use Rattle.wf_journal.specs.declared.fault.StartFault.{StartFault}
@@ -9,7 +9,7 @@ use Rattle.wf_journal.specs.declared.fault.StartFault.TheVariants as start
 use Rattle.wf_journal.specs.Faults.{start_fault}
 use Rattle.wf_journal.specs.Plan.{WentOn, Struck, IsFoundDown, StartMeetsPlan}
 use Rattle.wf_journal.specs.Start.{start_strokes}
-use Rattle.wf_journal.proofs.Plans.{down_on, went_none, went_same, went_stroke, struck_here, not_struck}
+use Rattle.wf_journal.proofs.Plans.{down_on, went_none, went_same, went_stroke, struck_here}
 
 some_stroke : (image : Option (List ℕ)) → 1 ≤ start_strokes image
 some_stroke None = omega arith
@@ -35,19 +35,6 @@ met_start_down old new failed fails found = record { done = λ none. absurd (non
 -- the same answer in other words
 pub met_start_as : (old new : Told) (F G : Type 0) → (F → G) → (G → F) → StartMeetsPlan old new F → StartMeetsPlan old new G
 met_start_as old new F G to from met = record { done = λ none. met.done (λ fails. none (to fails)); struck = λ fails. met.struck (from fails) }
-
--- a start over a disk that is safe for one stroke more doesn't fail
-pub start_safe : (old new : Told) (failed : Type 0) → StartMeetsPlan old new failed → IsSafeFor old (start_strokes old.image + 1) → failed → ⊥
-start_safe old new failed met safe fails = ⊎_elim (not_struck old new (start_strokes old.image) less) found (met.struck fails)
-  where
-    less : IsSafeFor old (start_strokes old.image)
-    less n after within hit = safe n after (omega (arith, within)) hit
-
-    found : IsFoundDown old new → ⊥
-    found is =
-        let some = some_stroke old.image in
-        let hit = is.went_on.plan.no_other (new.clock + 1) (is.down (new.clock + 1) (omega arith)) in
-        safe (new.clock + 1) (omega (arith, is.clock)) (omega (arith, is.clock, some)) hit
 
 -- THE STROKES OF A START
 module _ (t0 t1 : Told) (ok1 f1 : Type 0) (s1 : Strikes t0 t1 ok1 f1) (p1 : GoesToPlan t0 t1 ok1 f1) where

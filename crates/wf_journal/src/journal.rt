@@ -224,6 +224,13 @@ impl<D: Disk> Journal<D> {
         Ok(())
     }
 
+    /// Whether a disk call of an append failed. Each later append answers `Reopen` then.
+    pub fn is_failed(&self) -> bool
+        ensures { result ≡ self.now.failed }
+    {
+        self.failed
+    }
+
     /// The disk, lent.
     pub fn disk(&self) -> &D
         ensures disk { result.now ≡ self.now.disk }

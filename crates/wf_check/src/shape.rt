@@ -3,6 +3,7 @@ ghost use Rattle.std.specs.Prelude.{◌≡◌, ◌+◌, ◌<◌, ◌^◌, None};
 ghost use Rattle.wf_check.specs.Limited.{AreFew};
 ghost use Rattle.wf_check.specs.Numbered.{bad_state};
 ghost use Rattle.wf_check.specs.Rooted as rooted;
+ghost use Rattle.wf_model.specs.Ids as ids;
 ghost use Rattle.wf_model.specs.Tree as tree;
 ghost use Rattle.wf_model.specs.Accepted as spec;
 
@@ -22,39 +23,21 @@ pub fn shape_fault(chart: &Chart) -> Option<CheckFault>
     if chart.states.is_empty() {
         return Some(CheckFault::NoRoot);
     }
-    if !is_or(kind(chart, 0)) {
+    if !chart.kind(StateId(0)).is_or() {
         return Some(CheckFault::RootNotOr);
     }
     if let Some(s) = deep_state(chart) {
         return Some(CheckFault::TooDeep { state: state_id(s) });
     }
-    let s = unfit_state(chart)?;
-    Some(unfit(kind(chart, s), state_id(s)))
+    let state = state_id(unfit_state(chart)?);
+    Some(unfit(chart.kind(state), state))
 }
 
 fn state_id(s: usize) -> StateId
     requires { s < 2 ^ 32 }
-    ensures { result ≡ rooted.state_id s }
+    ensures { result ≡ ids.state_id s }
 {
     StateId(s as u32)
-}
-
-fn kind(chart: &Chart, s: usize) -> Kind
-    ensures { result ≡ tree.kind chart.now s }
-{
-    match chart.states.get(s) {
-        Some(state) => state.kind,
-        None => Kind::Basic,
-    }
-}
-
-fn is_or(kind: Kind) -> bool
-    ensures { result ≡ tree.is_or kind }
-{
-    match kind {
-        Kind::Or => true,
-        Kind::Basic | Kind::And => false,
-    }
 }
 
 fn unfit(kind: Kind, state: StateId) -> CheckFault

@@ -3,12 +3,12 @@ ghost use Rattle.std.specs.Prelude.{◌≡◌, ◌≤◌, length, take_while, If
 ghost use Rattle.wf_model.specs.Names as names;
 ghost use Rattle.wf_model.specs.Txt as txt;
 ghost use Rattle.wf_lex.specs.Lex as spec;
-ghost use Rattle.wf_lex.specs.Gives.{Gives};
 ghost use Rattle.wf_model.specs.Limits.{max_input, max_tokens};
+ghost use Rattle.wf_model.specs.Steps.{Gives};
 
 use crate::{LexFault, Token, TokenKind};
 use std::alloc::Global;
-use wf_model::limits::{MAX_INPUT, MAX_TOKENS};
+use wf_model::limits::MAX_TOKENS;
 use wf_model::{List, is_digit, is_letter, is_text_char, is_word_char};
 
 fn is_blank(byte: u8) -> bool
@@ -88,7 +88,7 @@ fn token_at(first: u8, bytes: &[u8]) -> Option<(TokenKind, usize)>
 #[tactic(auto, unfolding(crate::specs::Lex::tokens_of))]
 pub fn tokens(alloc: Global, text: &[u8]) -> Result<List<Token>, LexFault>
     requires { length text.now ≤ max_input }
-    ensures exact { Gives result (spec.tokens_of text.now) }
+    ensures exact { Gives LexFault.NoMemory result (spec.tokens_of text.now) }
     ensures few { IfOk result (λ found. length found ≤ max_tokens) }
 {
     let mut found = Vec::new(alloc);
@@ -121,25 +121,4 @@ pub fn tokens(alloc: Global, text: &[u8]) -> Result<List<Token>, LexFault>
         }
     }
     Ok(List::from_vec(found))
-}
-
-#[cfg(test)]
-mod tests {
-    use crate::{LexFault, Token, TokenKind, tokens};
-    use std::test::Fail;
-
-    #[test]
-    fn cuts_a_text(rt: HostRuntime) -> Result<(), Fail> {
-        let found = tokens(rt.alloc(), b"or R1 := 7# x\n\"t\"")?;
-        assert_eq!(rt; found.len(), 5);
-        let last = Token {
-            kind: TokenKind::Text,
-            start: 14,
-            end: 17,
-        };
-        assert_eq!(rt; found.as_slice()[4], last);
-        let refused = tokens(rt.alloc(), b"a \"b\n\"").err();
-        assert_eq!(rt; refused, Some(LexFault::BadByte { at: 2 }));
-        Ok(())
-    }
 }

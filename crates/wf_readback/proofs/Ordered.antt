@@ -5,14 +5,14 @@ use Rattle.std.proofs.lemmas.Bool.{cases_Bool, eqb-true, eq-eqb}
 use Rattle.wf_model.specs.Limits.{max_depth}
 use Rattle.wf_model.specs.declared.chart.Chart.{Chart}
 use Rattle.wf_model.specs.Tree.{parent, children, is_child_of, is_above, ancestors_by}
-use Rattle.wf_semantics.proofs.Bools.{or_cases, or_left, or_right}
+use Rattle.wf_model.proofs.Bools.{or_cases, or_left, or_right}
 use Rattle.wf_semantics.proofs.Children.{child_of, of_child, lt_or_ge}
 use Rattle.wf_semantics.proofs.Facts.{IsChart, chart_of}
 use Rattle.wf_semantics.proofs.Setting.{IsAncestry}
 use Rattle.wf_semantics.proofs.Charts.{falls, chart_ancestry, root_above}
 use Rattle.wf_print.specs.Nested.{depth}
-use Rattle.wf_readback.specs.Order.{states_from, IsRun, IsInOrder}
-use Rattle.wf_readback.specs.Laws.{StatesAreInOrder}
+use Rattle.wf_readback.proofs.Order.{states_from, IsRun, IsInOrder}
+use Rattle.wf_readback.proofs.Reading.{StatesAreInOrder}
 use Rattle.wf_readback.proofs.States.{depth_child}
 
 run_join : (k : ℕ) (xs ys : List ℕ) → IsRun k xs → IsRun (k + length xs) ys → IsRun k (xs ++ ys)

@@ -7,6 +7,7 @@ use Rattle.wf_model.specs.declared.ids.VarId.{VarId}
 use Rattle.wf_model.specs.declared.value.Sort.{Sort}
 use Rattle.wf_model.specs.declared.chart.Chart.{Chart}
 use Rattle.wf_model.specs.Sorts.{var_sort}
+use Rattle.wf_model.specs.Ids.{act_id}
 use Rattle.wf_semantics.specs.Items.{Item}
 use Rattle.wf_semantics.specs.Configuration.{Leaf}
 use Rattle.wf_semantics.specs.Run.{CentralState}
@@ -41,9 +42,6 @@ steps_in units u = slice_index_or (map (λ i. i.steps) units) u []
 -- a central state with these items, of which nothing else is looked at
 abbrev pub state_with : (ℕ → List Item) → CentralState
 state_with items = record { configuration = Leaf 0; store = []; raised = []; items = items; taken = 0 }
-
-abbrev pub act_id : ℕ → ActId
-act_id a = record { 0 = a }
 
 -- the activities at unit u, ascending
 abbrev pub acts_at : Chart → ℕ → List ActId

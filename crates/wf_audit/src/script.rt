@@ -14,7 +14,6 @@ use crate::values::text_at;
 use std::alloc::Global;
 use thiserror::Error;
 use wf_lex::{LexFault, Token, tokens};
-use wf_model::limits::MAX_INPUT;
 use wf_model::{Chart, List, NoMemory, Outer, UnitId};
 
 /// A line of a script.

@@ -3,9 +3,9 @@ use Rattle.std.proofs.Common.{◌≡◌, ℕ, zero, suc, ◌+◌, ◌<◌, ◌==
 use Rattle.std.specs.List.{range_with_len}
 use Rattle.std.proofs.lemmas.List.{set_past}
 use Rattle.wf_model.specs.declared.ids.EventId.{EventId}
-use Rattle.wf_semantics.proofs.Bools.{not_true}
+use Rattle.wf_model.proofs.Bools.{not_true}
 use Rattle.wf_semantics.proofs.Children.{lt_or_ge}
-use Rattle.wf_scopes.proofs.Rows.{put, row_agree, row_len, row_set}
+use Rattle.wf_model.proofs.Rows.{put, row_agree, row_len, row_set}
 use Rattle.wf_central.specs.Sight.{was_raised}
 use Rattle.wf_scopes.proofs.DefaultIn.{flip}
 

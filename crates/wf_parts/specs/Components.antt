@@ -1,21 +1,15 @@
 -- A chart cut into components: for each state, which transitions let it in and out, and for each transition, which block it.
 use Rattle.std.specs.Prelude.{ℕ, ◌&&◌, ◌||◌, not, Bool, List, [], map, filter, slice_get, unwrap_or}
 use Rattle.std.specs.List.{list_any}
-use Rattle.wf_model.specs.declared.ids.StateId.{StateId}
 use Rattle.wf_model.specs.declared.ids.TransId.{TransId}
 use Rattle.wf_parts.specs.declared.data.Component.{Component}
 use Rattle.wf_parts.specs.declared.data.Flat.{Flat}
 use Rattle.wf_model.specs.declared.chart.Chart.{Chart}
 use Rattle.wf_model.specs.Tree.{all_states, all_transitions, scope, is_above}
+use Rattle.wf_model.specs.Ids.{state_id, trans_id}
 use Rattle.wf_semantics.specs.Configuration.{is_in}
 use Rattle.wf_semantics.specs.Entry.{default_tree, entry_tree}
 use Rattle.wf_semantics.specs.Flat.{blockers}
-
-abbrev pub state_id : ℕ → StateId
-state_id s = record { 0 = s }
-
-abbrev pub trans_id : ℕ → TransId
-trans_id t = record { 0 = t }
 
 -- state z is in what transition t enters
 abbrev pub enters : Chart → ℕ → ℕ → Bool

@@ -20,9 +20,10 @@ use Rattle.wf_parts.specs.declared.data.PartData.{PartData}
 use Rattle.wf_model.specs.Sorts.{var_sort}
 use Rattle.wf_model.specs.Tree.{all_states}
 use Rattle.wf_model.specs.Accepted.{IsAccepted}
+use Rattle.wf_model.specs.Ids.{unit_id, state_id, trans_id, var_id, event_id, act_id}
 use Rattle.wf_semantics.specs.Configuration.{is_in}
 use Rattle.wf_semantics.specs.Entry.{default_tree}
-use Rattle.wf_parts.specs.Components.{state_id, trans_id, component_of, blocker_ids}
+use Rattle.wf_parts.specs.Components.{component_of, blocker_ids}
 use Rattle.wf_parts.specs.Known.{is_state_of, concerns, is_own, knows_state, knows_var, knows_event, knows_act}
 use Rattle.wf_parts.specs.Peers.{peers_of}
 
@@ -47,10 +48,10 @@ abbrev pub known_state : Chart → ℕ × State → KnownState
 known_state chart x = record { id = state_id x.0; unit = x.1.unit; first = is_in x.0 (default_tree chart 0) }
 
 abbrev pub known_variable : ℕ × Variable → KnownVariable
-known_variable x = record { id = record { 0 = x.0 }; sort = x.1.sort; first = x.1.first }
+known_variable x = record { id = var_id x.0; sort = x.1.sort; first = x.1.first }
 
 abbrev pub known_event : ℕ × Event → KnownEvent
-known_event x = record { id = record { 0 = x.0 }; unit = x.1.unit }
+known_event x = record { id = event_id x.0; unit = x.1.unit }
 
 -- an output with its sort
 abbrev pub sorted_output : Chart → VarId → VarId × Sort
@@ -60,7 +61,7 @@ sorted_output chart v = (v, unwrap_or (var_sort chart v.0) sorts.Bool)
 abbrev pub known_activity : Chart → ℕ → ℕ × Activity → KnownActivity
 known_activity chart u x =
     record {
-      id = record { 0 = x.0 };
+      id = act_id x.0;
       unit = x.1.unit;
       outputs = if x.1.unit.0 == u then map (sorted_output chart) x.1.outputs else [];
     }
@@ -71,7 +72,7 @@ part_of chart u =
     record {
       chart = chart.name;
       name = option_map_or (λ name. name) (slice_get chart.units u) [];
-      unit = record { 0 = u };
+      unit = unit_id u;
       units = length chart.units;
       components = map (component_of chart) (filter (is_state_of chart u) (all_states chart));
       transitions = map (part_transition chart u) (numbered (concerns chart u) chart.transitions);

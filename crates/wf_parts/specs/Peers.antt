@@ -4,9 +4,9 @@ use Rattle.std.specs.List.{list_any, range_with_len}
 use Rattle.wf_model.specs.declared.chart.Transition.{Transition}
 use Rattle.wf_model.specs.declared.chart.Chart.{Chart}
 use Rattle.wf_model.specs.Tree.{all_states, all_transitions, all_events, all_acts}
+use Rattle.wf_model.specs.Ids.{unit_id, state_id, var_id, event_id, act_id}
 use Rattle.wf_semantics.specs.Admission.{is_event_at, is_act_at}
 use Rattle.wf_parts.specs.declared.data.Known.{Known}
-use Rattle.wf_parts.specs.Components.{state_id}
 use Rattle.wf_parts.specs.Reads.{assigns, may_raise, may_start}
 use Rattle.wf_parts.specs.Known.{is_state_of, is_own, is_such, has_output, knows_state, knows_var, knows_event, knows_act}
 
@@ -36,11 +36,11 @@ held_by chart u =
 abbrev pub known_of : Chart → ℕ → ℕ → Known
 known_of chart u v =
     record {
-      unit = record { 0 = v };
+      unit = unit_id v;
       states = map state_id (filter (λ s. (held_by chart u).states s && knows_state chart v s) (all_states chart));
-      vars = map (λ x. record { 0 = x }) (filter (λ x. (held_by chart u).vars x && knows_var chart v x) (range_with_len 0 (length chart.vars)));
-      events = map (λ e. record { 0 = e }) (filter (λ e. (held_by chart u).events e && knows_event chart v e) (all_events chart));
-      acts = map (λ a. record { 0 = a }) (filter (λ a. (held_by chart u).acts a && knows_act chart v a) (all_acts chart));
+      vars = map var_id (filter (λ x. (held_by chart u).vars x && knows_var chart v x) (range_with_len 0 (length chart.vars)));
+      events = map event_id (filter (λ e. (held_by chart u).events e && knows_event chart v e) (all_events chart));
+      acts = map act_id (filter (λ a. (held_by chart u).acts a && knows_act chart v a) (all_acts chart));
     }
 
 -- for each peer, in unit order

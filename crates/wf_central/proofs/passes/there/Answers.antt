@@ -1,7 +1,7 @@
 use Rattle.std.proofs.Common.{◌<◌, ◌||◌, Bool, length, arith, ap, ◌∙◌}
 use Rattle.std.specs.List.{list_any}
 use Rattle.wf_semantics.specs.Run.{is_happening}
-use Rattle.wf_scopes.proofs.Rows.{row_more}
+use Rattle.wf_model.proofs.Rows.{row_more}
 use Rattle.wf_central.specs.Sight.{was_raised, is_there_by}
 use Rattle.wf_central.proofs.Few.{few_events}
 use Rattle.wf_central.proofs.Passing.{row_bit}

@@ -19,9 +19,10 @@ use Rattle.wf_model.specs.Sorts.{var_sort}
 use Rattle.wf_semantics.specs.Items.{Item, item_at}
 use Rattle.wf_semantics.specs.Run.{act_unit}
 use Rattle.wf_semantics.specs.Admission.{is_act_at, is_of, is_closed, is_pending, may_be_admitted}
-use Rattle.wf_semantics.proofs.Bools.{and_both}
+use Rattle.wf_model.proofs.Bools.{and_both}
 use Rattle.wf_semantics.proofs.Children.{lt_or_ge, item_at as item_there}
-use Rattle.wf_semantics.proofs.Facts.{all_at, parts}
+use Rattle.wf_semantics.proofs.Facts.{parts}
+use Rattle.wf_model.proofs.Items.{all_at}
 use Rattle.wf_activities.specs.Completing.{are_wanted, may_complete, unless_pending}
 use Rattle.wf_activities.specs.Laws.{HaveSorts}
 use Rattle.wf_activities.specs.UnitItems.{UnitItems}

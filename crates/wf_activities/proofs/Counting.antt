@@ -3,7 +3,7 @@ use Rattle.std.proofs.Common.{◌≡◌, ◌≢◌, ℕ, zero, suc, ◌+◌, ◌
 use Rattle.std.specs.List.{slice_get, All}
 use Rattle.std.proofs.lemmas.List.Elements.{All-nil, All-cons, All-head, All-tail, All-weaker}
 use Rattle.std.proofs.lemmas.Bool.{leb-true}
-use Rattle.wf_semantics.proofs.Bools.{or_cases}
+use Rattle.wf_model.proofs.Bools.{or_cases}
 use Rattle.wf_model.specs.Limits.{max_acts}
 use Rattle.std.proofs.lemmas.List.{take_more, length-replicate}
 use Rattle.std.proofs.lemmas.Grind.{get_or-set_at}

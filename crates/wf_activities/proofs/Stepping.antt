@@ -11,14 +11,15 @@ use Rattle.wf_model.specs.declared.chart.Chart.{Chart}
 use Rattle.wf_model.specs.declared.outer.Entry.{Entry}
 use Rattle.wf_model.specs.declared.update.StartAt.{StartAt}
 use Rattle.wf_model.specs.Accepted.{IsAccepted}
+use Rattle.wf_model.specs.Ids.{act_id}
 use Rattle.wf_semantics.specs.Items.{Item, Completion, new_item, close, close_all}
 use Rattle.wf_semantics.specs.Run.{completions_at, items_closed, is_at, new_items}
 use Rattle.wf_semantics.specs.Admission.{is_act_at}
-use Rattle.wf_semantics.proofs.Bools.{any_mem, mem_any}
+use Rattle.wf_model.proofs.Bools.{any_mem, mem_any}
 use Rattle.wf_semantics.proofs.Lists.{mem_range, mem_filter, filter_mem}
 use Rattle.wf_semantics.proofs.Children.{lt_or_ge}
 use Rattle.wf_activities.specs.UnitItems.{UnitItems, is_listed, listed}
-use Rattle.wf_activities.specs.Stock.{Stock, AreOf, items_at, steps_at, items_in, steps_in, act_id, acts_at, acts_of}
+use Rattle.wf_activities.specs.Stock.{Stock, AreOf, items_at, steps_at, items_in, steps_in, acts_at, acts_of}
 use Rattle.wf_activities.proofs.Rows.{row_at, row_len}
 use Rattle.wf_activities.proofs.ChartTables.{few}
 use Rattle.wf_activities.proofs.Admitting.{act_there, unit_known, get_within}

@@ -7,6 +7,7 @@ use Rattle.wf_model.specs.declared.ids.VarId.{VarId}
 use Rattle.wf_model.specs.declared.value.Sort.{Sort}
 use Rattle.wf_model.specs.declared.chart.Chart.{Chart}
 use Rattle.wf_model.specs.Sorts.{var_sort}
+use Rattle.wf_model.specs.Ids.{act_id}
 use Rattle.wf_semantics.specs.Items.{Item}
 use Rattle.wf_model.specs.declared.update.StartAt.{StartAt}
 use Rattle.wf_semantics.specs.Run.{is_at}
@@ -38,8 +39,6 @@ items_in units u = slice_index_or (map (λ i. i.items) units) u []
 abbrev pub steps_in : List UnitItems → ℕ → List ℕ
 steps_in units u = slice_index_or (map (λ i. i.steps) units) u []
 
-abbrev pub act_id : ℕ → ActId
-act_id a = record { 0 = a }
 
 -- the activities at unit u, ascending
 abbrev pub acts_at : Chart → ℕ → List ActId

@@ -1,6 +1,5 @@
 pub mod Divided
 pub mod Split
-pub mod Few
 pub mod Noted
 pub mod Spelled
 pub mod Commas

@@ -10,7 +10,7 @@ use Rattle.wf_model.specs.declared.outer.Outer.TheVariants.{Happen, Complete}
 use Rattle.wf_model.specs.declared.outer.Entry.{Entry}
 use Rattle.wf_semantics.specs.Run.{CentralState}
 use Rattle.wf_semantics.specs.Admission.{completes, is_pending, may_be_admitted, may_come_after, may_come}
-use Rattle.wf_semantics.proofs.Bools.{and_both, and_true}
+use Rattle.wf_model.proofs.Bools.{and_both, and_true}
 use Rattle.wf_audit.specs.CentralText.{in_unit_order}
 
 -- the entries may come behind those that are pending

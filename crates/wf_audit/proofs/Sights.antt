@@ -9,7 +9,7 @@ use Rattle.wf_model.specs.declared.chart.Chart.{Chart}
 use Rattle.wf_model.specs.declared.outer.Output.{Output}
 use Rattle.wf_model.specs.declared.outer.Entry.{Entry}
 use Rattle.wf_semantics.specs.Run.{CentralState, first_state}
-use Rattle.wf_scopes.proofs.Rows.{range_more}
+use Rattle.wf_model.proofs.Rows.{range_more}
 use Rattle.wf_central.specs.declared.notes.StepNotes.{StepNotes}
 use Rattle.wf_central.specs.Kept.{Kept, central_of, notes_of}
 use Rattle.wf_audit.specs.declared.script.CentralLine.{CentralLine}

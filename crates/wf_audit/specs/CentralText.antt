@@ -11,6 +11,7 @@ use Rattle.wf_model.specs.declared.outer.Outer.{Outer}
 use Rattle.wf_model.specs.declared.outer.Entry.{Entry}
 use Rattle.wf_model.specs.declared.outer.OuterFault.{OuterFault}
 use Rattle.wf_model.specs.Tree.{all_states}
+use Rattle.wf_model.specs.Ids.{state_id}
 use Rattle.wf_semantics.specs.Configuration.{is_in}
 use Rattle.wf_semantics.specs.Run.{CentralState, first_state, next_state, fired_in, started_in}
 use Rattle.wf_semantics.specs.Admission.{may_be_admitted}
@@ -34,9 +35,6 @@ in_unit_order chart entries = flat_map (λ u. filter (λ x. x.unit.0 == u) entri
 -- the entries of the next step
 abbrev pub coming : Chart → Standing → List Entry
 coming chart s = in_unit_order chart s.pending
-
-abbrev pub state_id : ℕ → StateId
-state_id s = record { 0 = s }
 
 -- the states that are in, ascending
 abbrev pub states_in : Chart → CentralState → List StateId

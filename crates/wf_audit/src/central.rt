@@ -1,18 +1,17 @@
 //! The central run of a script.
 ghost use Rattle.std.specs.Prelude.{◌≡◌, ◌≤◌, ◌<◌, ◌+◌, ◌++◌, ◌==◌, length, filter, IfOk, OnOk};
 ghost use Rattle.wf_model.specs.Accepted.{IsAccepted};
-ghost use Rattle.wf_model.specs.Limits.{max_steps};
+ghost use Rattle.wf_model.specs.Limits.{max_steps, max_lines, max_report};
 ghost use Rattle.wf_central.specs.Kept.{central_of, IsOf};
 ghost use Rattle.wf_audit.specs.CentralText as spec;
 ghost use Rattle.wf_audit.specs.Standings.{standing_of, IsRun};
-ghost use Rattle.wf_model.specs.Limits.{max_lines, max_report};
 
 use crate::reply::{Reply, reply_line};
 use crate::script::CentralLine;
 use std::alloc::Global;
 use thiserror::Error;
 use wf_central::CentralState;
-use wf_model::limits::{MAX_LINES, MAX_REPORT};
+use wf_model::limits::MAX_REPORT;
 use wf_model::{
     Bytes, Chart, Checked, Duplicate, Entry, List, NoMemory, Outer, Output, StateId, UnitId, VarId,
 };

@@ -10,7 +10,6 @@ ghost use Rattle.wf_model.specs.Limits.{max_acts, max_events, max_units, max_var
 
 use std::alloc::Global;
 use std::collections::HashMap;
-use wf_model::limits::{MAX_ACTS, MAX_EVENTS, MAX_UNITS, MAX_VARS};
 use wf_model::{Activity, Chart, Event, Name, NoMemory, Variable};
 
 /// The numbers of a chart's units, events, activities and variables, by their names.
@@ -24,7 +23,7 @@ pub struct Names<'a> {
 
 impl<'a> Names<'a> {
     /// The names of this chart. Linear in their bytes on average.
-    #[tactic(auto, using(crate::proofs::Few::few_units, crate::proofs::Few::few_events, crate::proofs::Few::few_acts, crate::proofs::Few::few_vars))]
+    #[tactic(auto, using(wf_model::proofs::Few::few_units, wf_model::proofs::Few::few_events, wf_model::proofs::Few::few_acts, wf_model::proofs::Few::few_vars))]
     pub fn of(alloc: Global, chart: &'a Chart) -> Result<Names<'a>, NoMemory>
         requires { IsAccepted chart.now }
         ensures { IfOk result (λ names. finder_of names ≡ spec.names_of chart.now) }

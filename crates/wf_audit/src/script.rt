@@ -13,7 +13,6 @@ use crate::values::text_at;
 use std::alloc::Global;
 use thiserror::Error;
 use wf_lex::{LexFault, Token, line_tokens};
-use wf_model::limits::MAX_INPUT;
 use wf_model::{Checked, List, NoMemory, Outer, UnitId};
 
 /// A line of a script.

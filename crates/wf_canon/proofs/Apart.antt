@@ -13,7 +13,7 @@ use Rattle.wf_model.specs.declared.expr.Expr.TheVariants as e
 use Rattle.wf_model.specs.Accepted.{is_known_expr, is_named}
 use Rattle.wf_model.specs.Names.{is_letter, is_digit, is_word_char, are_word_chars, is_word, is_name}
 use Rattle.wf_model.specs.Txt.{is_text_char, is_text}
-use Rattle.wf_semantics.proofs.Bools.{and_both}
+use Rattle.wf_model.proofs.Bools.{and_both}
 use Rattle.wf_lex.specs.declared.token.TokenKind.TheVariants as kinds
 use Rattle.wf_lex.specs.Lex.{with_kind, text_rest, token_at}
 use Rattle.wf_lex.specs.Slices.{IsToken}

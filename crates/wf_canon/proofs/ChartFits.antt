@@ -26,7 +26,7 @@ use Rattle.wf_model.specs.Names.{is_word, is_name}
 use Rattle.wf_model.specs.Txt.{is_text}
 use Rattle.wf_model.specs.Tree.{children}
 use Rattle.wf_model.specs.Accepted.{IsAccepted, is_named, all_of, is_unit, is_known_expr, is_known_action, is_known_activity, is_known_transition}
-use Rattle.wf_semantics.proofs.Bools.{and_both}
+use Rattle.wf_model.proofs.Bools.{and_both}
 use Rattle.wf_lex.specs.declared.token.TokenKind.TheVariants as token
 use Rattle.wf_lex.specs.Lex.{token_at, tokens_of}
 use Rattle.wf_lex.specs.Slices.{IsToken}

@@ -4,7 +4,7 @@ use Rattle.std.specs.List.{list_all}
 use lib.Chars.{codes}
 use Rattle.wf_model.specs.Names.{is_word_char, is_word}
 use Rattle.wf_model.specs.Tree.{list_from}
-use Rattle.wf_semantics.proofs.Bools.{and_both}
+use Rattle.wf_model.proofs.Bools.{and_both}
 use Rattle.wf_lex.specs.declared.token.TokenKind.TheVariants as kinds
 use Rattle.wf_lex.specs.Lex.{is_blank, token_at}
 use Rattle.wf_lex.specs.Slices.{IsToken}

@@ -6,7 +6,7 @@ use Rattle.std.proofs.lemmas.List.Sums.{take_while-cons}
 use Rattle.std.proofs.lemmas.Bool.Decides.{nat_tests}
 use Rattle.wf_model.specs.Names.{is_letter, is_digit, is_word_char}
 use Rattle.wf_model.specs.Txt.{is_text_char}
-use Rattle.wf_semantics.proofs.Bools.{or_cases}
+use Rattle.wf_model.proofs.Bools.{or_cases}
 use Rattle.wf_lex.specs.declared.token.TokenKind.{TokenKind}
 use Rattle.wf_lex.specs.declared.token.TokenKind.TheVariants as kinds
 use Rattle.wf_lex.specs.Lex.{with_kind, is_blank, is_alone, may_join, sign_rest, text_rest, token_at}

@@ -4,7 +4,7 @@ use Rattle.std.specs.List.{list_all, enumerate_from}
 use Rattle.wf_model.specs.declared.chart.Chart.{Chart}
 use Rattle.wf_model.specs.Tree.{parent_of}
 use Rattle.wf_model.specs.Accepted.{IsAccepted, is_accepted, is_named, is_numbered, all_of, all_numbered, is_unit, follows, is_placed_event, is_placed_state, is_known_activity, is_known_transition}
-use Rattle.wf_semantics.proofs.Bools.{and_both, and_true}
+use Rattle.wf_model.proofs.Bools.{and_both, and_true}
 
 pub is_named_of : (chart : Chart) → IsAccepted chart → is_named chart ≡ true
 unfolding is_accepted

@@ -8,7 +8,7 @@ use Rattle.std.proofs.lemmas.Bool.Decides.{nat_tests}
 use Rattle.wf_model.specs.Limits.{max_text, max_int}
 use Rattle.wf_model.specs.Names.{is_digit}
 use Rattle.wf_model.specs.Txt.{is_text_char, is_text}
-use Rattle.wf_semantics.proofs.Bools.{and_both, and_true}
+use Rattle.wf_model.proofs.Bools.{and_both, and_true}
 use Rattle.wf_cursor.specs.Values.{with_digit, number, number_up_to, characters, short_text}
 use Rattle.wf_print.specs.Words.{quoted}
 

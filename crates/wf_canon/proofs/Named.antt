@@ -16,7 +16,7 @@ use Rattle.wf_model.specs.declared.chart.Activity.{Activity}
 use Rattle.wf_model.specs.declared.chart.Chart.{Chart}
 use Rattle.wf_model.specs.Names.{is_word, is_reserved, is_name}
 use Rattle.wf_model.specs.Accepted.{is_named}
-use Rattle.wf_semantics.proofs.Bools.{and_both}
+use Rattle.wf_model.proofs.Bools.{and_both}
 use Rattle.wf_lex.specs.declared.token.TokenKind.TheVariants as kinds
 use Rattle.wf_cursor.specs.declared.names.Declared.{Declared}
 use Rattle.wf_cursor.specs.declared.piece.Piece.TheVariants as pieces

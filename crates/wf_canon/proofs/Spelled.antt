@@ -9,7 +9,7 @@ use Rattle.wf_model.specs.declared.expr.Op.TheVariants as o
 use Rattle.wf_model.specs.declared.expr.Expr.{Expr, end_of-Expr, more_of-Expr}
 use Rattle.wf_model.specs.declared.expr.Expr.TheVariants as e
 use Rattle.wf_model.specs.Accepted.{nodes, is_known_expr, is_named}
-use Rattle.wf_semantics.proofs.Bools.{and_both}
+use Rattle.wf_model.proofs.Bools.{and_both}
 use Rattle.wf_lex.specs.declared.token.TokenKind.TheVariants as kinds
 use Rattle.wf_model.specs.Limits.{max_int}
 use Rattle.wf_cursor.specs.declared.names.Declared.TheVariants as declared_as_a

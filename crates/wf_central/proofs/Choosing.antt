@@ -5,10 +5,11 @@ use Rattle.std.specs.Option.{option_map}
 use Rattle.wf_model.specs.declared.ids.TransId.{TransId}
 use Rattle.wf_model.specs.declared.chart.Chart.{Chart}
 use Rattle.wf_model.specs.Tree.{scope, all_states}
-use Rattle.wf_scopes.proofs.Rows.{row_agree, row_set, put}
+use Rattle.wf_model.specs.Ids.{trans_id}
+use Rattle.wf_model.proofs.Rows.{row_agree, row_set, put}
 use Rattle.wf_central.specs.Kept.{bit}
 use Rattle.wf_scopes.proofs.DefaultIn.{flip}
-use Rattle.wf_central.specs.Passes.{trans_id, chosen_from, chosen_by}
+use Rattle.wf_central.specs.Passes.{chosen_from, chosen_by}
 
 -- one number more at the front
 range_down : (t m : ℕ) → 0 < t → t ≤ m → range_with_len (t - 1) (m - (t - 1)) ≡ (t - 1) ∷ range_with_len t (m - t)

@@ -7,7 +7,7 @@ use Rattle.wf_semantics.specs.Configuration.{Tree, is_in, IsConfiguration}
 use Rattle.wf_semantics.specs.Entry.{entry_tree}
 use Rattle.wf_semantics.specs.Walk.{new_tree, fired_of, first_of_scope}
 use Rattle.wf_semantics.specs.Flat.{fires, HaveActiveSources}
-use Rattle.wf_semantics.proofs.Bools.{Mem, any_mem, mem_any, not_true, bool_iff}
+use Rattle.wf_model.proofs.Bools.{Mem, any_mem, mem_any, not_true, bool_iff}
 use Rattle.wf_semantics.proofs.Lists.{among_mem, mem_among, mem_filter, filter_agree}
 use Rattle.wf_semantics.proofs.Facts.{IsChart}
 use Rattle.wf_semantics.proofs.Towards.{entry_below}

@@ -7,9 +7,9 @@ use Rattle.wf_model.specs.declared.outer.Outer.{Outer}
 use Rattle.wf_model.specs.declared.outer.Outer.TheVariants.{Happen, Complete}
 use Rattle.wf_model.specs.declared.outer.Entry.{Entry}
 use Rattle.wf_semantics.specs.Run.{is_happening}
-use Rattle.wf_semantics.proofs.Bools.{not_true}
+use Rattle.wf_model.proofs.Bools.{not_true}
 use Rattle.wf_semantics.proofs.Children.{lt_or_ge}
-use Rattle.wf_scopes.proofs.Rows.{put, row_agree, row_len, row_set}
+use Rattle.wf_model.proofs.Rows.{put, row_agree, row_len, row_set}
 use Rattle.wf_central.specs.Sight.{was_raised}
 use Rattle.wf_scopes.proofs.DefaultIn.{flip}
 

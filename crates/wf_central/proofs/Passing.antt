@@ -6,20 +6,20 @@ use Rattle.wf_model.specs.declared.ids.TransId.{TransId}
 use Rattle.wf_model.specs.declared.chart.Chart.{Chart}
 use Rattle.wf_model.specs.Accepted.{IsAccepted}
 use Rattle.wf_model.specs.Tree.{scope, source, ancestors, all_states, all_transitions}
+use Rattle.wf_model.specs.Ids.{state_id, trans_id}
 use Rattle.wf_semantics.specs.Configuration.{Tree, is_in}
 use Rattle.wf_semantics.specs.Walk.{new_tree, fired_of, first_of_scope}
-use Rattle.wf_semantics.proofs.Bools.{Mem, any_agree}
+use Rattle.wf_model.proofs.Bools.{Mem, any_agree}
 use Rattle.wf_semantics.proofs.Lists.{mem_among, filter_agree, filter_mem, find_some}
 use Rattle.wf_semantics.proofs.Children.{lt_or_ge}
 use Rattle.wf_semantics.proofs.Facts.{IsChart, chart_of}
 use Rattle.wf_semantics.proofs.Places.{above_low}
 use Rattle.wf_semantics.proofs.Scopes.{scope_facts}
 use Rattle.wf_semantics.proofs.Steps.{transition_mem}
-use Rattle.wf_scopes.specs.Tables.{state_id}
-use Rattle.wf_scopes.proofs.Rows.{row_get, row_len}
+use Rattle.wf_model.proofs.Rows.{row_get, row_len}
 use Rattle.wf_central.specs.Kept.{bit}
 use Rattle.wf_central.specs.Made.{AreBits}
-use Rattle.wf_central.specs.Passes.{trans_id, at, chosen_by, firing_by, is_number, fired_by, or_else, first_ids, bit_by, moved_by}
+use Rattle.wf_central.specs.Passes.{at, chosen_by, firing_by, is_number, fired_by, or_else, first_ids, bit_by, moved_by}
 use Rattle.wf_central.proofs.Firing.{firing_at, first_by, or_other, is_this, bit_after, fired_list, bit_moves}
 
 abbrev ids : Option ℕ → Option TransId

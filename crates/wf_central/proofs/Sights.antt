@@ -15,22 +15,22 @@ use Rattle.wf_model.specs.declared.chart.Chart.{Chart}
 use Rattle.wf_model.specs.declared.outer.Entry.{Entry}
 use Rattle.wf_model.specs.Accepted.{IsAccepted}
 use Rattle.wf_model.specs.Seen.{Seen}
+use Rattle.wf_model.specs.Ids.{trans_id}
 use Rattle.wf_semantics.specs.Configuration.{is_in}
 use Rattle.wf_semantics.specs.Effects.{after_fired, raised_by, starts_of}
 use Rattle.wf_semantics.specs.Shown.{Shows, HasSorts}
 use Rattle.wf_semantics.specs.Snapshot.{Snapshot, is_active, has_event, has_guard, is_ready, is_enabled}
 use Rattle.wf_semantics.specs.Run.{CentralState, snapshot_of, fired_in, next_state, is_there, open_now, done_now, items_closed, completions_at}
 use Rattle.wf_semantics.specs.Items.{open_count, done_count}
-use Rattle.wf_semantics.proofs.Bools.{not_true}
+use Rattle.wf_model.proofs.Bools.{not_true}
 use Rattle.wf_semantics.proofs.Children.{item_at, lt_or_ge}
 use Rattle.wf_semantics.proofs.Configured.{inside_states}
 use Rattle.wf_semantics.proofs.Facts.{IsChart}
-use Rattle.wf_scopes.proofs.Rows.{row_at, row_len}
+use Rattle.wf_model.proofs.Rows.{row_at, row_len}
 use Rattle.wf_effects.specs.Numbers.{numbers}
 use Rattle.wf_effects.proofs.Expressions.{can_read, guard_of}
 use Rattle.wf_central.specs.Kept.{bit}
 use Rattle.wf_central.specs.Sight.{CanBeRead, seen_by, seeing}
-use Rattle.wf_central.specs.Passes.{trans_id}
 use Rattle.wf_central.specs.Made.{IsSeen, seen_of}
 use Rattle.wf_central.specs.declared.snapshot.StepSnapshot.{StepSnapshot}
 use Rattle.wf_central.proofs.Passing.{row_bit, past_end}

@@ -26,7 +26,7 @@ use Rattle.wf_semantics.specs.Effects.{after_outputs, after_outer, after_entries
 use Rattle.wf_semantics.specs.Run.{CentralState}
 use Rattle.wf_semantics.specs.Admission.{may_be_admitted, may_come_after, is_act_at, is_of, is_closed, is_pending, are_values, are_outputs_of}
 use Rattle.wf_semantics.specs.Shown.{HasSorts}
-use Rattle.wf_semantics.proofs.Bools.{and_both}
+use Rattle.wf_model.proofs.Bools.{and_both}
 use Rattle.wf_semantics.proofs.Facts.{rules}
 
 alike_same : (a b : Sort) → alike a b ≡ true → a ≡ b

@@ -4,6 +4,7 @@ use Rattle.wf_model.specs.declared.chart.Chart.{Chart}
 use Rattle.wf_model.specs.declared.outer.Entry.{Entry}
 use Rattle.wf_model.specs.Seen.{Seen}
 use Rattle.wf_model.specs.Tree.{all_states, all_transitions, all_events, all_acts}
+use Rattle.wf_model.specs.Ids.{trans_id}
 use Rattle.wf_semantics.specs.Configuration.{Tree, is_in, IsConfiguration}
 use Rattle.wf_semantics.specs.Effects.{after_entries, starts_of}
 use Rattle.wf_semantics.specs.Flat.{HaveActiveSources}
@@ -12,7 +13,6 @@ use Rattle.wf_semantics.specs.Run.{CentralState, is_there, open_now, done_now, f
 use Rattle.wf_central.specs.declared.snapshot.StepSnapshot.{StepSnapshot}
 use Rattle.wf_central.specs.declared.passes.AfterWalk.{AfterWalk}
 use Rattle.wf_central.specs.declared.passes.AfterStep.{AfterStep}
-use Rattle.wf_central.specs.Passes.{trans_id}
 use Rattle.wf_central.specs.Sight.{seen_by}
 
 abbrev pub seen_of : StepSnapshot → Seen

@@ -5,13 +5,11 @@ use Rattle.wf_model.specs.declared.ids.StateId.{StateId}
 use Rattle.wf_model.specs.declared.ids.TransId.{TransId}
 use Rattle.wf_model.specs.declared.chart.Chart.{Chart}
 use Rattle.wf_model.specs.Tree.{ancestors, scope, all_transitions}
+use Rattle.wf_model.specs.Ids.{trans_id}
 use Rattle.wf_semantics.specs.Configuration.{is_in}
 use Rattle.wf_semantics.specs.Entry.{entry_tree}
 use Rattle.wf_scopes.specs.Tables.{ancestor_ids}
 use Rattle.wf_central.specs.Kept.{bit}
-
-abbrev pub trans_id : ℕ → TransId
-trans_id t = record { 0 = t }
 
 -- the transition, if any, that stands for state s
 abbrev pub at : List (Option TransId) → ℕ → Option TransId

@@ -4,13 +4,14 @@ ghost use Rattle.std.specs.Prelude.{◌≡◌, ◌<◌, ◌||◌, ℕ, Bool, tru
 ghost use Rattle.std.specs.List.{list_any, range_with_len};
 ghost use Rattle.wf_model.specs.Accepted.{IsAccepted};
 ghost use Rattle.wf_model.specs.Tree.{all_states, all_transitions, ancestors, all_events};
+ghost use Rattle.wf_model.specs.Ids.{trans_id};
 ghost use Rattle.wf_semantics.specs.Configuration.{Tree};
 ghost use Rattle.wf_semantics.specs.Run.{CentralState, is_happening, is_there};
 ghost use Rattle.wf_semantics.specs.Shown.{HasSorts};
 ghost use Rattle.wf_semantics.specs.Snapshot.{has_event, has_guard, is_ready, is_enabled};
 ghost use Rattle.wf_scopes.specs.Tables.{tables_of, ancestor_ids};
 ghost use Rattle.wf_central.specs.Kept.{bit};
-ghost use Rattle.wf_central.specs.Passes.{trans_id, at, chosen_by, firing_by, fired_by, first_ids, bit_by, moved_by};
+ghost use Rattle.wf_central.specs.Passes.{at, chosen_by, firing_by, fired_by, first_ids, bit_by, moved_by};
 ghost use Rattle.wf_central.specs.Sight.{CanBeRead, was_raised, seeing};
 ghost use Rattle.wf_central.specs.Made.{seen_of, AreBits, MakesWalk, IsSeen, MakesStep};
 

@@ -9,19 +9,8 @@ use Rattle.wf_model.specs.declared.chart.State.{State}
 use Rattle.wf_model.specs.Tree.{parent, parent_of, is_child_of, is_among, is_above, ancestors_by}
 use Rattle.wf_model.specs.Accepted.{all_numbered, follows, is_unit, is_placed_state, has_child}
 use Rattle.wf_check.specs.Numbered.{bad_state}
+use Rattle.wf_model.proofs.Items.{numbered_at}
 use Rattle.wf_check.proofs.Parts.{or_cases, or_right, numbered_pass}
-
--- the numbered tests that a list passes, item by item
-pub numbered_at : {A : Type 0} → (test : ℕ → A → Bool) (xs : List A) → all_numbered test xs ≡ true → (i : ℕ) (x : A) → slice_get xs i ≡ Some x → test i x ≡ true
-numbered_at {A = A} test xs h i x e = go 0 i xs h (omega arith) e
-  where
-    go : (a j : ℕ) (ys : List A) → list_all (λ p. test p.0 p.1) (enumerate_from a ys) ≡ true → a + j ≡ i → slice_get ys j ≡ Some x → test i x ≡ true
-    go a j [] h s e = cc
-    go a zero (y ∷ ys) h s e =
-        let same : y ≡ x = cc in
-        let at : a ≡ i = omega arith in
-        subst (λ (k : ℕ). test k x ≡ true) at (subst (λ (z : A). test a z ≡ true) same (and_parts (test a y) (list_all (λ p. test p.0 p.1) (enumerate_from (a + 1) ys)) h).0)
-    go a (suc j) (y ∷ ys) h s e = go (a + 1) j ys (and_parts (test a y) (list_all (λ p. test p.0 p.1) (enumerate_from (a + 1) ys)) h).1 (omega arith) e
 
 -- an item that passes, with its place
 any_at : {A : Type 0} → (test : A → Bool) (xs : List A) → list_any test xs ≡ true → (i : ℕ) × (x : A) × (slice_get xs i ≡ Some x) × (test x ≡ true)

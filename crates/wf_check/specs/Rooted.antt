@@ -8,12 +8,10 @@ use Rattle.wf_model.specs.declared.chart.Kind.TheVariants.{Basic, Or, And}
 use Rattle.wf_model.specs.declared.ids.StateId.{StateId}
 use Rattle.wf_model.specs.Tree.{kind, is_or, ancestors}
 use Rattle.wf_model.specs.Accepted.{has_child, suits}
+use Rattle.wf_model.specs.Ids.{state_id}
 use Rattle.wf_check.specs.declared.fault.CheckFault.{CheckFault}
 use Rattle.wf_check.specs.declared.fault.CheckFault.TheVariants.{NoRoot, RootNotOr, TooDeep, EmptyOr, EmptyAnd, BasicWithChildren}
 use Rattle.wf_check.specs.Firsts.{first_failing_numbered, unless, first_some}
-
-abbrev pub state_id : ℕ → StateId
-state_id s = record { 0 = s }
 
 -- the first state that is too deep
 abbrev pub deep_state : Chart → Option ℕ

@@ -10,19 +10,11 @@ use Rattle.wf_model.specs.declared.ids.TransId.{TransId}
 use Rattle.wf_model.specs.Seen.{val_sort}
 use Rattle.wf_model.specs.Sorts.{alike}
 use Rattle.wf_model.specs.Accepted.{all_of, has_sort, are_outputs, is_sorted_action}
+use Rattle.wf_model.specs.Ids.{var_id, act_id, trans_id}
 use Rattle.wf_check.specs.declared.fault.CheckFault.{CheckFault}
 use Rattle.wf_check.specs.declared.fault.CheckFault.TheVariants.{BadType, BadOutput, SourceRoot, TargetRoot}
 use Rattle.wf_check.specs.declared.fault.TypePlace.TheVariants as place
 use Rattle.wf_check.specs.Firsts.{first_failing, unless, first_some, first_from}
-
-abbrev pub var_id : ℕ → VarId
-var_id x = record { 0 = x }
-
-abbrev pub act_id : ℕ → ActId
-act_id a = record { 0 = a }
-
-abbrev pub trans_id : ℕ → TransId
-trans_id t = record { 0 = t }
 
 -- the first variable whose first value is of another sort
 abbrev pub unlike_var : Chart → Option ℕ

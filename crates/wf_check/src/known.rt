@@ -7,7 +7,6 @@ ghost use Rattle.wf_model.specs.Accepted as spec;
 ghost use Rattle.wf_model.specs.Limits.{max_nodes};
 
 use wf_expr::is_known_expr;
-use wf_model::limits::MAX_NODES;
 use wf_model::{ActId, Action, Chart, EventId, Expr, StateId, Transition, VarId};
 
 fn is_state(chart: &Chart, state: StateId) -> bool

@@ -11,7 +11,6 @@ ghost use Rattle.wf_model.specs.Limits.{max_nodes};
 use crate::sorts::alike;
 use crate::{CheckFault, TypePlace};
 use wf_expr::type_of;
-use wf_model::limits::MAX_NODES;
 use wf_model::{Action, Chart, Expr, Sort, TransId, Transition, VarId};
 
 fn has_sort(chart: &Chart, e: &Expr, sort: Sort) -> bool

@@ -3,6 +3,7 @@ ghost use Rattle.std.specs.Prelude.{◌≡◌, ◌+◌, ◌<◌, ◌^◌, None};
 ghost use Rattle.wf_check.specs.Limited.{AreFew};
 ghost use Rattle.wf_check.specs.Numbered.{bad_state};
 ghost use Rattle.wf_check.specs.Rooted as rooted;
+ghost use Rattle.wf_model.specs.Ids as ids;
 ghost use Rattle.wf_model.specs.Tree as tree;
 ghost use Rattle.wf_model.specs.Accepted as spec;
 
@@ -34,7 +35,7 @@ pub fn shape_fault(chart: &Chart) -> Option<CheckFault>
 
 fn state_id(s: usize) -> StateId
     requires { s < 2 ^ 32 }
-    ensures { result ≡ rooted.state_id s }
+    ensures { result ≡ ids.state_id s }
 {
     StateId(s as u32)
 }

@@ -3,6 +3,7 @@ ghost use Rattle.std.specs.Prelude.{◌≡◌, ◌<◌, ◌≤◌, ◌^◌, ◌=
 ghost use Rattle.std.specs.List.{list_any};
 ghost use Rattle.wf_check.specs.Limited.{AreFew};
 ghost use Rattle.wf_check.specs.Sorted as sorted;
+ghost use Rattle.wf_model.specs.Ids as ids;
 ghost use Rattle.wf_model.specs.Seen.{val_sort};
 ghost use Rattle.wf_model.specs.Sorts as sorts;
 ghost use Rattle.wf_model.specs.Accepted as spec;
@@ -30,14 +31,14 @@ pub fn sort_fault(chart: &Chart) -> Option<CheckFault>
 
 fn var_id(x: usize) -> VarId
     requires { x < 2 ^ 32 }
-    ensures { result ≡ sorted.var_id x }
+    ensures { result ≡ ids.var_id x }
 {
     VarId(x as u32)
 }
 
 fn act_id(a: usize) -> ActId
     requires { a < 2 ^ 32 }
-    ensures { result ≡ sorted.act_id a }
+    ensures { result ≡ ids.act_id a }
 {
     ActId(a as u32)
 }

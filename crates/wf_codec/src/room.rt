@@ -1,11 +1,10 @@
 //! How many bytes a spelling takes, so that their room is reserved at once.
 ghost use Rattle.std.specs.Prelude.{◌≡◌, ◌*◌, ◌≤◌, length};
 ghost use Rattle.std.specs.List.{flat_map, AllByRecursion};
-ghost use Rattle.wf_model.specs.Limits.{max_sealed, max_vars};
+ghost use Rattle.wf_model.specs.Limits.{max_sealed, max_vars, max_outputs, max_units};
 ghost use Rattle.wf_codec.specs.Spelling.{value_spelling, output_spelling, outer_spelling, write_spelling, spelling_of};
 ghost use Rattle.wf_codec.specs.Ranges.{any_numbers, IsOuter, IsInRange};
 ghost use Rattle.wf_codec.specs.Records.{record_spelling, IsRecordInRange};
-ghost use Rattle.wf_model.specs.Limits.{max_outputs, max_units};
 
 use crate::record::JournalRecord;
 use wf_model::limits::{MAX_OUTPUTS, MAX_TEXT, MAX_UNITS};

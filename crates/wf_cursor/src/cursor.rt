@@ -10,7 +10,7 @@ use crate::value::{number_up_to, short_text};
 use std::alloc::Global;
 use std::marker::Model;
 use wf_lex::Token;
-use wf_model::limits::{MAX_INT, MAX_NAME, MAX_NODES, MAX_TOKENS};
+use wf_model::limits::{MAX_INT, MAX_NAME, MAX_NODES};
 use wf_model::{
     ActId, Activity, Chart, Event, EventId, List, Name, NoMemory, State, StateId, Transition, Txt,
     UnitId, VarId, Variable,

@@ -22,7 +22,7 @@ use Rattle.wf_model.proofs.Sound.{value_sort}
 use Rattle.wf_model.specs.Values.{value_of}
 use Rattle.wf_semantics.specs.Effects.{actions_of, written, after_action, after_actions, after_fired, is_fault, action_raises, raises, raised_by, starts_from, starts_of}
 use Rattle.wf_semantics.specs.Shown.{Shows, HasSorts}
-use Rattle.wf_semantics.proofs.Bools.{and_both}
+use Rattle.wf_model.proofs.Bools.{and_both}
 use Rattle.wf_semantics.proofs.Lists.{filter_agree, range_mem}
 use Rattle.wf_effects.specs.declared.gathered.Gathered.{Gathered}
 use Rattle.wf_effects.specs.Performing.{nothing_yet, assigned, performed, performed_all, fired_all, events_of}

@@ -20,9 +20,10 @@ use Rattle.wf_model.specs.Seen.{Seen, HasAll, option_sort, var_sorts}
 use Rattle.wf_model.specs.Sorts.{sort_of, var_sort, alike}
 use Rattle.wf_model.specs.Accepted.{IsAccepted, is_sorted, all_of, gives, has_sort, nodes, is_known_expr, is_small_transition, is_small_action, is_known_transition, is_known_action, is_sorted_transition, is_sorted_action}
 use Rattle.wf_semantics.specs.Shown.{Shows}
-use Rattle.wf_semantics.proofs.Bools.{and_both}
+use Rattle.wf_model.proofs.Bools.{and_both}
 use Rattle.wf_semantics.proofs.Children.{item_at}
-use Rattle.wf_semantics.proofs.Facts.{rules, parts, all_at}
+use Rattle.wf_semantics.proofs.Facts.{rules, parts}
+use Rattle.wf_model.proofs.Items.{all_at}
 
 -- an expression has the same sort over a snapshot of the chart as over the chart
 pub typed : (chart : Chart) (seen : Seen) (x : Expr) (sort : Sort) → Shows chart seen → sort_of (var_sort chart) x ≡ Ok sort → sort_of (var_sorts seen) x ≡ Ok sort

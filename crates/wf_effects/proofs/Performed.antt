@@ -16,7 +16,7 @@ use Rattle.wf_model.specs.Values.{value_of}
 use Rattle.wf_model.specs.Accepted.{is_known_action}
 use Rattle.wf_semantics.specs.Effects.{actions_of}
 use Rattle.wf_semantics.specs.Shown.{Shows}
-use Rattle.wf_semantics.proofs.Facts.{all_at}
+use Rattle.wf_model.proofs.Items.{all_at}
 use Rattle.wf_effects.specs.declared.gathered.Gathered.{Gathered}
 use Rattle.wf_effects.specs.Numbers.{numbers}
 use Rattle.wf_effects.specs.Performing.{assigned, performed, performed_all, fired_all, CanPerform}

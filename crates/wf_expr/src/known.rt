@@ -3,7 +3,6 @@ ghost use Rattle.std.specs.Prelude.{◌≡◌, ◌≤◌, nat_lt, length};
 ghost use Rattle.wf_model.specs.Accepted as spec;
 ghost use Rattle.wf_model.specs.Limits.{max_nodes};
 
-use wf_model::limits::MAX_NODES;
 use wf_model::{Chart, Expr};
 
 /// Whether every number in the expression is that of a variable, a state or an activity of the chart. Linear in the

@@ -4,7 +4,6 @@ ghost use Rattle.wf_model.specs.Accepted.{nodes};
 ghost use Rattle.wf_model.specs.Sorts as spec;
 ghost use Rattle.wf_model.specs.Limits.{max_nodes};
 
-use wf_model::limits::MAX_NODES;
 use wf_model::{Chart, Expr, Op, Sort, TypeFault};
 
 /// The sort of an expression over the chart's variables. `Mismatch` exactly where an operand has another sort than its

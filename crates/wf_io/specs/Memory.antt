@@ -1,6 +1,6 @@
 -- A source and a sink in memory, which fail where they are told to.
 use Rattle.std.specs.Prelude.{ℕ, List, Contains}
-use Rattle.wf_io.specs.Causes.{one_more}
+use Rattle.wf_model.specs.Faults.{one_more}
 
 -- what a source or a sink in memory is
 pub record InMemory : Type 0 where

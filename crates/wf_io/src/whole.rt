@@ -1,7 +1,8 @@
 //! Reading up to the end, and writing all.
 ghost use Rattle.std.specs.Prelude.{◌≡◌, ◌<◌, ◌≤◌, ℕ, List, length, take, IfOk, IfSome, OnOk, OnErr, IsErrOf};
 ghost use Rattle.std.specs.Io.KnownBytes.{Consumes, IsAtEnd, Appends};
-ghost use Rattle.wf_io.specs.Causes.{HasCause, Rose};
+ghost use Rattle.wf_io.specs.Causes.{HasCause};
+ghost use Rattle.wf_model.specs.Faults.{Rose};
 
 use crate::{Sink, Source};
 use std::alloc::Global;

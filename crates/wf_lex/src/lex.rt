@@ -8,7 +8,7 @@ ghost use Rattle.wf_model.specs.Limits.{max_input, max_tokens};
 
 use crate::{LexFault, Token, TokenKind};
 use std::alloc::Global;
-use wf_model::limits::{MAX_INPUT, MAX_TOKENS};
+use wf_model::limits::MAX_TOKENS;
 use wf_model::{List, is_digit, is_letter, is_text_char, is_word_char};
 
 fn is_blank(byte: u8) -> bool

@@ -1,4 +1,7 @@
 pub mod Limits
+pub mod Ids
+pub mod Bits
+pub mod Faults
 pub mod Txt
 pub mod TxtCells
 pub mod Names

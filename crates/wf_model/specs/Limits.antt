@@ -95,7 +95,29 @@ max_starts = 8176
 abbrev pub max_sealed : ℕ
 max_sealed = 64
 
--- JOURNALS AND MESSAGES
+-- bytes of all messages of a `play`
+abbrev pub max_sent : ℕ
+max_sent = 268435456
+
+-- client lines of a `host`
+abbrev pub max_client_lines : ℕ
+max_client_lines = 1000
+
+-- the goal of a `host`, in rounds
+abbrev pub max_goal : ℕ
+max_goal = 1000
+
+abbrev pub max_clients : ℕ
+max_clients = 16
+
+abbrev pub max_workers : ℕ
+max_workers = 16
+
+-- turns that a unit takes in one round of a `host`
+abbrev pub max_turns : ℕ
+max_turns = 8
+
+-- JOURNALS
 
 -- bytes of one body of a journal
 abbrev pub max_body : ℕ

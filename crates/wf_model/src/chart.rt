@@ -1,4 +1,8 @@
 //! A chart, as its text means it.
+ghost use Rattle.std.specs.Prelude.{◌≡◌, option_map};
+ghost use Rattle.wf_model.specs.Sorts as sorts;
+ghost use Rattle.wf_model.specs.Tree as tree;
+
 use crate::{
     ActId, Duplicate, EventId, Expr, List, Name, NoMemory, Same, Sort, StateId, UnitId, Val, VarId,
 };
@@ -75,6 +79,50 @@ pub struct Chart {
     pub acts: List<Activity>,
     pub states: List<State>,
     pub transitions: List<Transition>,
+}
+
+impl Kind {
+    /// Whether it is that of an Or state.
+    pub fn is_or(self) -> bool
+        ensures { result ≡ tree.is_or self }
+    {
+        match self {
+            Kind::Or => true,
+            Kind::Basic | Kind::And => false,
+        }
+    }
+}
+
+impl Chart {
+    /// The kind of a state. A number that no state has counts as basic. In constant time.
+    pub fn kind(&self, s: StateId) -> Kind
+        ensures { result ≡ tree.kind self.now s.0 }
+    {
+        match self.states.get(s.0 as usize) {
+            Some(state) => state.kind,
+            None => Kind::Basic,
+        }
+    }
+
+    /// The parent of a state, if it has one. In constant time.
+    pub fn parent(&self, s: StateId) -> Option<StateId>
+        ensures { option_map (λ p. p.0) result ≡ tree.parent self.now s.0 }
+    {
+        match self.states.get(s.0 as usize) {
+            Some(state) => state.parent,
+            None => None,
+        }
+    }
+
+    /// The sort of a variable, if there is one of this number. In constant time.
+    pub fn var_sort(&self, x: VarId) -> Option<Sort>
+        ensures { result ≡ sorts.var_sort self.now x.0 }
+    {
+        match self.vars.get(x.0 as usize) {
+            Some(var) => Some(var.sort),
+            None => None,
+        }
+    }
 }
 
 impl Duplicate for Action {
@@ -157,12 +205,6 @@ impl Duplicate for Chart {
             states: self.states.copy(alloc)?,
             transitions: self.transitions.copy(alloc)?,
         })
-    }
-}
-
-impl Duplicate for VarId {
-    fn copy(&self, _alloc: Global) -> Result<VarId, NoMemory> {
-        Ok(*self)
     }
 }
 

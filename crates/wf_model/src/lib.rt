@@ -1,6 +1,7 @@
 //! The types that every crate speaks of, and the definitions that change least: the accepted chart, sorts and values.
 #![tactic(auto)]
 
+mod bits;
 mod chart;
 mod checked;
 mod duplicate;
@@ -14,10 +15,12 @@ mod outer;
 mod part;
 mod same;
 mod status;
+mod step_notes;
 mod txt;
 mod update;
 mod value;
 
+pub use bits::Bits;
 pub use chart::{Action, Activity, Chart, Event, Kind, State, Transition, Variable};
 pub use checked::Checked;
 pub use duplicate::Duplicate;
@@ -33,6 +36,7 @@ pub use part::{
 };
 pub use same::Same;
 pub use status::Status;
+pub use step_notes::StepNotes;
 pub use txt::{Txt, is_text_char};
 pub use update::{StartAt, UnitSet, Update, Write};
 pub use value::{Sort, Val};

@@ -1,6 +1,6 @@
 //! How large things may be, for the program. The definitions have the same numbers, which `limits_are_numbers` says.
 ghost use Rattle.std.specs.Prelude.{◌≡◌};
-ghost use Rattle.wf_model.specs.Limits.{max_units, max_events, max_vars, max_acts, max_states, max_transitions, max_actions, max_outputs, max_nodes, max_depth, max_name, max_text, max_int, max_input, max_tokens, max_open, max_lines, max_report, max_steps, max_fired, max_starts, max_sealed, max_body, max_journal};
+ghost use Rattle.wf_model.specs.Limits.{max_units, max_events, max_vars, max_acts, max_states, max_transitions, max_actions, max_outputs, max_nodes, max_depth, max_name, max_text, max_int, max_input, max_tokens, max_open, max_lines, max_report, max_steps, max_fired, max_starts, max_sealed, max_sent, max_client_lines, max_goal, max_clients, max_workers, max_turns, max_body, max_journal};
 
 /// Units of a chart.
 pub const MAX_UNITS: usize = 8;
@@ -68,6 +68,24 @@ pub const MAX_STARTS: usize = 8_176;
 /// Admissions that one turn seals: the outers that an update brings.
 pub const MAX_SEALED: usize = 64;
 
+/// Bytes of all messages of a `play`: 256 MiB.
+pub const MAX_SENT: usize = 268_435_456;
+
+/// Client lines of a `host`.
+pub const MAX_CLIENT_LINES: usize = 1000;
+
+/// The goal of a `host`, in rounds.
+pub const MAX_GOAL: usize = 1000;
+
+/// Clients of a `host`.
+pub const MAX_CLIENTS: usize = 16;
+
+/// Workers of a `host`.
+pub const MAX_WORKERS: usize = 16;
+
+/// Turns that a unit takes in one round of a `host`.
+pub const MAX_TURNS: u32 = 8;
+
 /// Bytes of one body of a journal: 1 MiB.
 pub const MAX_BODY: u64 = 1_048_576;
 
@@ -82,6 +100,7 @@ pub fn limits_are_numbers()
     ensures atoms { (MAX_NAME ≡ max_name) × (MAX_TEXT ≡ max_text) × (MAX_INT ≡ max_int) }
     ensures input { (MAX_INPUT ≡ max_input) × (MAX_TOKENS ≡ max_tokens) × (MAX_OPEN ≡ max_open) × (MAX_LINES ≡ max_lines) }
     ensures run { (MAX_REPORT ≡ max_report) × (MAX_STEPS ≡ max_steps) × (MAX_FIRED ≡ max_fired) × (MAX_STARTS ≡ max_starts) × (MAX_SEALED ≡ max_sealed) }
+    ensures play { MAX_SENT ≡ max_sent }
+    ensures host { (MAX_CLIENT_LINES ≡ max_client_lines) × (MAX_GOAL ≡ max_goal) × (MAX_CLIENTS ≡ max_clients) × (MAX_WORKERS ≡ max_workers) × (MAX_TURNS ≡ max_turns) }
     ensures journal { (MAX_BODY ≡ max_body) × (MAX_JOURNAL ≡ max_journal) }
-{
-}
+{}

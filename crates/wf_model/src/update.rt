@@ -39,24 +39,6 @@ pub struct Update {
     pub outer: List<Outer>,
 }
 
-impl Duplicate for StateId {
-    fn copy(&self, _alloc: Global) -> Result<StateId, NoMemory> {
-        Ok(*self)
-    }
-}
-
-impl Duplicate for TransId {
-    fn copy(&self, _alloc: Global) -> Result<TransId, NoMemory> {
-        Ok(*self)
-    }
-}
-
-impl Duplicate for EventId {
-    fn copy(&self, _alloc: Global) -> Result<EventId, NoMemory> {
-        Ok(*self)
-    }
-}
-
 impl Duplicate for Write {
     fn copy(&self, _alloc: Global) -> Result<Write, NoMemory> {
         Ok(*self)

@@ -2,7 +2,7 @@
 use Rattle.std.proofs.Common.{◌≡◌, ℕ, ◌+◌, Bool, true, false, List, [], ◌∷◌, ◌++◌, map, filter, append-nil, refl}
 use Rattle.std.specs.List.{range_with_len}
 use Rattle.wf_model.specs.declared.ids.TransId.{TransId}
-use Rattle.wf_parts.specs.Components.{trans_id}
+use Rattle.wf_model.specs.Ids.{trans_id}
 use Rattle.wf_scopes.proofs.Lines.{filter_more_by}
 
 -- the numbers below n that pass, as transitions

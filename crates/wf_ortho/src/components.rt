@@ -2,11 +2,12 @@
 ghost use Rattle.std.specs.Prelude.{◌≡◌, ◌<◌, map, filter, length, IfOk};
 ghost use Rattle.wf_model.specs.Accepted.{IsAccepted};
 ghost use Rattle.wf_model.specs.Tree.{all_states, all_transitions};
+ghost use Rattle.wf_model.specs.Ids.{trans_id};
 ghost use Rattle.wf_semantics.specs.Configuration.{is_in};
 ghost use Rattle.wf_semantics.specs.Entry.{default_tree};
 ghost use Rattle.wf_semantics.specs.Flat.{blocks};
 ghost use Rattle.wf_scopes.specs.Tables.{tables_of};
-ghost use Rattle.wf_parts.specs.Components.{trans_id, enters, leaves, component_of, blocker_ids, flat_of};
+ghost use Rattle.wf_parts.specs.Components.{enters, leaves, component_of, blocker_ids, flat_of};
 
 use std::alloc::Global;
 use wf_model::{Chart, Checked, Component, Flat, List, NoMemory, StateId, TransId};

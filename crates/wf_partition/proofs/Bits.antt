@@ -2,8 +2,8 @@
 use Rattle.std.proofs.Common.{◌≡◌, ◌≢◌, ℕ, zero, suc, ◌+◌, ◌<◌, ◌≤◌, ◌==◌, ◌||◌, ◌&&◌, Bool, true, false, List, [], ◌∷◌, length, map, take, get_or, set, refl, sym, ◌∙◌, ap, ap₂, arith, eq-eqb, eqb-true}
 use Rattle.std.specs.List.{range_with_len, list_any}
 use Rattle.std.proofs.lemmas.List.Folds.{list_any-append, list_any_more}
-use Rattle.wf_semantics.proofs.Bools.{not_true}
-use Rattle.wf_scopes.proofs.Rows.{row_agree, range_more}
+use Rattle.wf_model.proofs.Bools.{not_true}
+use Rattle.wf_model.proofs.Rows.{row_agree, range_more}
 use Rattle.wf_partition.specs.Marked.{marked, marked_from}
 
 pub or_false : (b : Bool) → (b || false) ≡ b

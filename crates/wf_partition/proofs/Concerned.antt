@@ -7,12 +7,13 @@ use Rattle.wf_model.specs.declared.part.Flat.{Flat}
 use Rattle.wf_model.specs.declared.chart.Chart.{Chart}
 use Rattle.wf_model.specs.Accepted.{IsAccepted}
 use Rattle.wf_model.specs.Tree.{all_states, all_transitions, source}
+use Rattle.wf_model.specs.Ids.{trans_id}
 use Rattle.wf_parts.specs.Reads.{reads_state}
-use Rattle.wf_parts.specs.Components.{trans_id, component_of, flat_of, enters, leaves}
+use Rattle.wf_parts.specs.Components.{component_of, flat_of, enters, leaves}
 use Rattle.wf_parts.specs.Known.{concerns, is_state_of, is_read, watches_state}
 use Rattle.wf_parts.proofs.Entered.{concerned_by_lists}
-use Rattle.wf_semantics.proofs.Bools.{any_map}
-use Rattle.wf_scopes.proofs.Rows.{row_at, row_len, row_agree}
+use Rattle.wf_model.proofs.Bools.{any_map}
+use Rattle.wf_model.proofs.Rows.{row_at, row_len, row_agree}
 use Rattle.wf_partition.specs.Marked.{marked, moves, leads_from}
 use Rattle.wf_partition.proofs.Bits.{differ, marked_row, row_more_by}
 

@@ -15,12 +15,13 @@ use Rattle.wf_model.specs.declared.chart.Chart.{Chart}
 use Rattle.wf_model.specs.Tree.{all_states, all_transitions, all_acts, source}
 use Rattle.wf_semantics.specs.Configuration.{is_in}
 use Rattle.wf_semantics.specs.Entry.{default_tree}
-use Rattle.wf_scopes.proofs.Rows.{row_at, row_get, row_len}
+use Rattle.wf_model.proofs.Rows.{row_at, row_get, row_len}
 use Rattle.wf_scopes.proofs.Lines.{state_get, trans_get, source_read, filter_more_by}
-use Rattle.wf_parts.specs.Components.{flat_of, component_of, blocker_ids, trans_id}
+use Rattle.wf_parts.specs.Components.{flat_of, component_of, blocker_ids}
 use Rattle.wf_parts.specs.Parts.{part_transition}
 use Rattle.wf_model.specs.declared.expr.Expr.{Expr}
 use Rattle.wf_model.specs.declared.chart.Action.{Action}
+use Rattle.wf_model.specs.Ids.{trans_id}
 use Rattle.wf_parts.specs.Reads.{assigns, is_on, reads_var, reads_act}
 use Rattle.wf_parts.specs.Known.{concerns, is_own, is_state_of, is_read, watches_state, knows_state, knows_var, knows_event, knows_act}
 use Rattle.wf_partition.specs.Marked.{marked, assigns_at, gives_at, triggers_at}

@@ -2,6 +2,5 @@ pub mod Bits
 pub mod Adding
 pub mod Concerned
 pub mod UnitTexts
-pub mod Few
 pub mod Numbered
 pub mod Known

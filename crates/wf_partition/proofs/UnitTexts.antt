@@ -12,7 +12,7 @@ use Rattle.wf_model.specs.declared.part.KnownState.{KnownState}
 use Rattle.wf_model.specs.declared.part.Part.{Part}
 use Rattle.wf_model.specs.Accepted.{IsAccepted, is_accepted, is_small}
 use Rattle.wf_model.specs.Tree.{all_states}
-use Rattle.wf_scopes.proofs.Rows.{row_at, range_more}
+use Rattle.wf_model.proofs.Rows.{row_at, range_more}
 use Rattle.wf_parts.specs.Known.{watches_state, knows_state}
 use Rattle.wf_parts.specs.Parts.{part_of, known_state, numbered}
 use Rattle.wf_partition.specs.SplitText.{bit, AreWatched}

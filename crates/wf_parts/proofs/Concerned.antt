@@ -4,7 +4,7 @@ use Rattle.wf_model.specs.declared.chart.Chart.{Chart}
 use Rattle.wf_model.specs.Tree.{all_states, scope, source, is_above}
 use Rattle.wf_model.specs.Accepted.{IsAccepted}
 use Rattle.wf_semantics.specs.Flat.{blocks}
-use Rattle.wf_semantics.proofs.Bools.{or_cases, and_both, and_true, any_mem, mem_any}
+use Rattle.wf_model.proofs.Bools.{or_cases, and_both, and_true, any_mem, mem_any}
 use Rattle.wf_semantics.proofs.Lists.{mem_range}
 use Rattle.wf_semantics.proofs.Facts.{chart_of}
 use Rattle.wf_semantics.proofs.Places.{above_trans}

@@ -4,7 +4,7 @@ use Rattle.std.specs.List.{list_any}
 use Rattle.wf_model.specs.declared.chart.Chart.{Chart}
 use Rattle.wf_model.specs.Tree.{all_states, scope, is_above}
 use Rattle.wf_model.specs.Accepted.{IsAccepted}
-use Rattle.wf_semantics.proofs.Bools.{any_agree}
+use Rattle.wf_model.proofs.Bools.{any_agree}
 use Rattle.wf_semantics.proofs.Facts.{chart_of}
 use Rattle.wf_semantics.proofs.Towards.{entry_below}
 use Rattle.wf_parts.specs.Components.{enters, leaves}

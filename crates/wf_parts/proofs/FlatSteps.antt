@@ -8,15 +8,16 @@ use Rattle.wf_model.specs.declared.ids.TransId.{TransId}
 use Rattle.wf_model.specs.declared.chart.Chart.{Chart}
 use Rattle.wf_model.specs.Tree.{all_transitions, scope, is_above}
 use Rattle.wf_model.specs.Accepted.{IsAccepted}
+use Rattle.wf_model.specs.Ids.{trans_id}
 use Rattle.wf_semantics.specs.Configuration.{Tree, is_in, IsConfiguration}
 use Rattle.wf_semantics.specs.Entry.{entry_tree}
 use Rattle.wf_semantics.specs.Walk.{new_tree}
 use Rattle.wf_semantics.specs.Flat.{blockers, fires, HaveActiveSources}
-use Rattle.wf_semantics.proofs.Bools.{any_agree, any_map, any_filter, any_or}
+use Rattle.wf_model.proofs.Bools.{any_agree, any_map, any_filter, any_or}
 use Rattle.wf_semantics.proofs.Lists.{filter_agree}
 use Rattle.wf_semantics.proofs.Steps.{transition_mem}
 use Rattle.wf_semantics.proofs.LawsHold.{walk_fires_by_rule, walk_moves_by_rule}
-use Rattle.wf_parts.specs.Components.{trans_id, enters, leaves, component_of, blocker_ids, flat_of, fires_by, is_in_after}
+use Rattle.wf_parts.specs.Components.{enters, leaves, component_of, blocker_ids, flat_of, fires_by, is_in_after}
 use Rattle.wf_parts.specs.Laws.{FlatStep}
 use Rattle.wf_parts.proofs.Entered.{below_is_moved}
 

@@ -7,15 +7,10 @@ use Rattle.wf_model.specs.declared.part.Component.{Component}
 use Rattle.wf_model.specs.declared.part.Flat.{Flat}
 use Rattle.wf_model.specs.declared.chart.Chart.{Chart}
 use Rattle.wf_model.specs.Tree.{all_states, all_transitions, scope, is_above}
+use Rattle.wf_model.specs.Ids.{state_id, trans_id}
 use Rattle.wf_semantics.specs.Configuration.{is_in}
 use Rattle.wf_semantics.specs.Entry.{default_tree, entry_tree}
 use Rattle.wf_semantics.specs.Flat.{blockers}
-
-abbrev pub state_id : ℕ → StateId
-state_id s = record { 0 = s }
-
-abbrev pub trans_id : ℕ → TransId
-trans_id t = record { 0 = t }
 
 -- state z is in what transition t enters
 abbrev pub enters : Chart → ℕ → ℕ → Bool

@@ -19,9 +19,10 @@ use Rattle.wf_model.specs.declared.part.OutputSort.{OutputSort}
 use Rattle.wf_model.specs.declared.part.Part.{Part}
 use Rattle.wf_model.specs.Sorts.{var_sort}
 use Rattle.wf_model.specs.Tree.{all_states}
+use Rattle.wf_model.specs.Ids.{state_id, trans_id}
 use Rattle.wf_semantics.specs.Configuration.{is_in}
 use Rattle.wf_semantics.specs.Entry.{default_tree}
-use Rattle.wf_parts.specs.Components.{state_id, trans_id, component_of, blocker_ids}
+use Rattle.wf_parts.specs.Components.{component_of, blocker_ids}
 use Rattle.wf_parts.specs.Known.{is_state_of, concerns, is_own, knows_state, knows_var, knows_event, knows_act}
 
 -- those of a list whose numbers pass a test, with their numbers

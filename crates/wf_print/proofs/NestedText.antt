@@ -5,7 +5,7 @@ use Rattle.wf_model.specs.Limits.{max_depth}
 use Rattle.wf_model.specs.declared.chart.Chart.{Chart}
 use Rattle.wf_model.specs.declared.chart.State.{State}
 use Rattle.wf_model.specs.Tree.{parent, ancestors, ancestors_by, children}
-use Rattle.wf_semantics.proofs.Bools.{Mem}
+use Rattle.wf_model.proofs.Bools.{Mem}
 use Rattle.wf_semantics.proofs.Ancestors.{enough}
 use Rattle.wf_semantics.proofs.Children.{lt_or_ge, mem_child_parent}
 use Rattle.wf_semantics.proofs.Facts.{IsChart, chart_of}

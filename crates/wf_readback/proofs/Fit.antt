@@ -9,7 +9,7 @@ use Rattle.wf_model.specs.declared.chart.Action.TheVariants as act
 use Rattle.wf_model.specs.declared.chart.Transition.{Transition}
 use Rattle.wf_model.specs.declared.chart.Chart.{Chart}
 use Rattle.wf_model.specs.Accepted.{IsAccepted, is_accepted, is_small, nodes, all_of, is_known_expr, is_known_action, is_known_transition, is_small_action, is_small_transition}
-use Rattle.wf_semantics.proofs.Bools.{and_both}
+use Rattle.wf_model.proofs.Bools.{and_both}
 use Rattle.wf_grammar.proofs.Inputs.{fits_is}
 use Rattle.wf_canon.specs.Expressions.{has_short_literals}
 use Rattle.wf_canon.specs.Charts.{is_short_value, is_short_action, is_short_transition, is_short}

@@ -12,7 +12,7 @@ use Rattle.wf_model.specs.declared.chart.Activity.{Activity}
 use Rattle.wf_model.specs.declared.chart.State.{State}
 use Rattle.wf_model.specs.declared.chart.Chart.{Chart}
 use Rattle.wf_model.specs.Accepted.{IsAccepted, is_accepted, is_named, is_numbered, is_new, is_unit, is_placed_event, all_numbered, all_of, names_of}
-use Rattle.wf_semantics.proofs.Bools.{and_both}
+use Rattle.wf_model.proofs.Bools.{and_both}
 use Rattle.wf_cursor.specs.declared.names.Declared.{Declared}
 use Rattle.wf_cursor.specs.Names.{declared_as}
 use Rattle.wf_words.specs.Names.{unit_name, var_name, act_name}

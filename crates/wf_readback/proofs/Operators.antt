@@ -3,7 +3,7 @@ use Rattle.std.proofs.Common.{◌≡◌, ◌&&◌, true, refl, ◌∙◌, ap}
 use Rattle.wf_model.specs.declared.expr.Op.{Op}
 use Rattle.wf_model.specs.declared.expr.Expr.{Expr}
 use Rattle.wf_model.specs.declared.expr.Expr.TheVariants.{Not, Neg, Bin}
-use Rattle.wf_semantics.proofs.Bools.{and_true}
+use Rattle.wf_model.proofs.Bools.{and_true}
 use Rattle.wf_readback.specs.Held.{has_short_texts}
 
 pub short_texts-Not : (x : Expr) → has_short_texts (Not x) ≡ has_short_texts x

@@ -5,7 +5,7 @@ use Rattle.std.proofs.lemmas.Bool.{cases_Bool, eqb-true, eq-eqb}
 use Rattle.wf_model.specs.Limits.{max_depth}
 use Rattle.wf_model.specs.declared.chart.Chart.{Chart}
 use Rattle.wf_model.specs.Tree.{parent, children, is_child_of, is_above, ancestors_by}
-use Rattle.wf_semantics.proofs.Bools.{or_cases, or_left, or_right}
+use Rattle.wf_model.proofs.Bools.{or_cases, or_left, or_right}
 use Rattle.wf_semantics.proofs.Children.{child_of, of_child, lt_or_ge}
 use Rattle.wf_semantics.proofs.Facts.{IsChart, chart_of}
 use Rattle.wf_semantics.proofs.Setting.{IsAncestry}

@@ -20,7 +20,7 @@ use Rattle.wf_model.specs.Sorts.{sort_of, var_sort, op_sort, takes}
 use Rattle.wf_model.specs.Seen.{val_sort}
 use Rattle.wf_model.specs.Sorts.{alike}
 use Rattle.wf_model.specs.Accepted.{IsAccepted, is_accepted, is_sorted, is_sorted_transition, is_sorted_action, has_sort, gives, all_of, is_known_expr, is_known_action, is_known_transition}
-use Rattle.wf_semantics.proofs.Bools.{and_both, and_true}
+use Rattle.wf_model.proofs.Bools.{and_both, and_true}
 use Rattle.wf_semantics.proofs.Children.{item_at}
 use Rattle.wf_model.specs.Limits.{max_int}
 use Rattle.wf_canon.specs.Expressions.{has_short_literals}

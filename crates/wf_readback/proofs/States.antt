@@ -13,7 +13,7 @@ use Rattle.wf_model.specs.declared.chart.Chart.{Chart}
 use Rattle.wf_model.specs.Names.{is_name}
 use Rattle.wf_model.specs.Tree.{children, parent, parent_of}
 use Rattle.wf_model.specs.Accepted.{IsAccepted, is_unit}
-use Rattle.wf_semantics.proofs.Bools.{and_both, Mem}
+use Rattle.wf_model.proofs.Bools.{and_both, Mem}
 use Rattle.wf_semantics.proofs.Children.{mem_child_parent, parent_inside, item_at, lt_or_ge}
 use Rattle.wf_semantics.proofs.Facts.{IsChart, chart_of}
 use Rattle.wf_cursor.specs.declared.names.Declared.TheVariants as declared_as_a

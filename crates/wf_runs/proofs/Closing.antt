@@ -12,7 +12,7 @@ use Rattle.wf_semantics.specs.Effects.{starts_of}
 use Rattle.wf_semantics.specs.Items.{Item, Completion, new_item, item_at, close, close_all}
 use Rattle.wf_semantics.specs.Run.{CentralState, next_state, after_steps, fired_in, is_at, items_closed, completions_of, completions_at}
 use Rattle.wf_semantics.specs.Admission.{is_closed, completes, is_pending}
-use Rattle.wf_semantics.proofs.Bools.{or_left}
+use Rattle.wf_model.proofs.Bools.{or_left}
 use Rattle.wf_activities.specs.Laws.{closed_item}
 use Rattle.wf_activities.proofs.LawsHold.{closes_one}
 

@@ -15,7 +15,7 @@ use Rattle.wf_model.specs.declared.outer.OuterFault.TheVariants.{WrongUnit, NoIt
 use Rattle.wf_semantics.specs.Items.{Item, one, item_at}
 use Rattle.wf_semantics.specs.Run.{CentralState, first_state, next_state, after_steps, central_run, items_closed}
 use Rattle.wf_semantics.specs.Admission.{is_act_at, is_of, is_closed, completes, is_pending, are_outputs_of, may_be_admitted, may_come_after, may_come}
-use Rattle.wf_semantics.proofs.Bools.{or_cases, and_both, not_true}
+use Rattle.wf_model.proofs.Bools.{or_cases, and_both, not_true}
 use Rattle.wf_runs.specs.Runs.{IsRunFrom, IsRun}
 use Rattle.wf_runs.specs.Completions.{is_completed, completing, all_entries}
 use Rattle.wf_runs.proofs.Closing.{closed_now, closed_next}

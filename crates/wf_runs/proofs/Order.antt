@@ -14,7 +14,7 @@ use Rattle.wf_semantics.specs.Effects.{actions_of, starts_from, starts_of}
 use Rattle.wf_semantics.specs.Walk.{fired, first_of_scope}
 use Rattle.wf_semantics.specs.Snapshot.{is_enabled}
 use Rattle.wf_semantics.specs.Run.{CentralState, first_state, next_state, snapshot_of, fired_in, is_at}
-use Rattle.wf_semantics.proofs.Bools.{or_cases, or_left, or_right, and_both, and_true}
+use Rattle.wf_model.proofs.Bools.{or_cases, or_left, or_right, and_both, and_true}
 use Rattle.wf_runs.specs.Starts.{StartIn, in_step, starts_at, starts_along, all_starts, start_at, is_earlier, is_before}
 use Rattle.wf_runs.proofs.Numbers.{next_taken}
 

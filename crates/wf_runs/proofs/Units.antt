@@ -12,9 +12,10 @@ use Rattle.wf_model.specs.declared.update.StartAt.{StartAt}
 use Rattle.wf_model.specs.Accepted.{IsAccepted, is_known_action, is_known_transition, is_known_activity, is_unit}
 use Rattle.wf_semantics.specs.Effects.{actions_of, starts_from, starts_of}
 use Rattle.wf_semantics.specs.Run.{act_unit}
-use Rattle.wf_semantics.proofs.Bools.{and_both, and_true}
+use Rattle.wf_model.proofs.Bools.{and_both, and_true}
 use Rattle.wf_semantics.proofs.Children.{item_at}
-use Rattle.wf_semantics.proofs.Facts.{AreParts, parts, all_at}
+use Rattle.wf_semantics.proofs.Facts.{AreParts, parts}
+use Rattle.wf_model.proofs.Items.{all_at}
 
 module _ (chart : Chart) (p : AreParts chart) where
   abbrev has_unit : StartAt → Bool

@@ -10,12 +10,12 @@ use Rattle.wf_model.specs.Tree.{kind, parent}
 use Rattle.wf_semantics.specs.Configuration.{is_in}
 use Rattle.wf_semantics.specs.Entry.{default_tree, first_child}
 use Rattle.wf_semantics.specs.Picks.{picked_by}
-use Rattle.wf_semantics.proofs.Bools.{not_true}
+use Rattle.wf_model.proofs.Bools.{not_true}
 use Rattle.wf_semantics.proofs.Facts.{chart_of}
 use Rattle.wf_semantics.proofs.Charts.{falls}
 use Rattle.wf_semantics.proofs.Grown.{first_picks}
 use Rattle.wf_semantics.proofs.Tables.{first_is_next, tree_bit}
-use Rattle.wf_scopes.proofs.Rows.{row_at}
+use Rattle.wf_model.proofs.Rows.{row_at}
 
 pub flip : (a b : ℕ) → (a == b) ≡ (b == a)
 flip a b = go (a == b) refl

@@ -2,7 +2,7 @@
 use Rattle.std.proofs.Common.{◌≡◌, ℕ, ◌+◌, ◌<◌, ◌==◌, ◌||◌, ◌&&◌, cond, Bool, true, false, List, length, map, get_or, Some, None, refl, sym, ◌∙◌, ap, ap₂, eqb-true, eq-eqb, true≢false}
 use Rattle.std.specs.Option.{option_map_or}
 use Rattle.std.specs.List.{range_with_len}
-use Rattle.wf_scopes.proofs.Rows.{row_at}
+use Rattle.wf_model.proofs.Rows.{row_at}
 use Rattle.wf_model.specs.declared.chart.Chart.{Chart}
 use Rattle.wf_model.specs.declared.chart.Kind.{Kind}
 use Rattle.wf_model.specs.Accepted.{IsAccepted}
@@ -10,7 +10,7 @@ use Rattle.wf_model.specs.Tree.{kind, parent, scope, target, is_above}
 use Rattle.wf_semantics.specs.Configuration.{is_in}
 use Rattle.wf_semantics.specs.Entry.{entry_tree, child_towards}
 use Rattle.wf_semantics.specs.Picks.{picked_by}
-use Rattle.wf_semantics.proofs.Bools.{not_true}
+use Rattle.wf_model.proofs.Bools.{not_true}
 use Rattle.wf_semantics.proofs.Facts.{chart_of}
 use Rattle.wf_semantics.proofs.Children.{or_of}
 use Rattle.wf_semantics.proofs.Charts.{falls}

@@ -9,13 +9,14 @@ use Rattle.wf_model.specs.declared.chart.Transition.{Transition}
 use Rattle.wf_model.specs.declared.chart.Chart.{Chart}
 use Rattle.wf_model.specs.Accepted.{IsAccepted}
 use Rattle.wf_model.specs.Tree.{parent, parent_of, ancestors, ancestors_by, list_from, is_above, kind, is_or, scope_between, source, target}
+use Rattle.wf_model.specs.Ids.{state_id}
 use Rattle.wf_semantics.proofs.Ancestors.{by_up, enough}
-use Rattle.wf_semantics.proofs.Bools.{any_map}
+use Rattle.wf_model.proofs.Bools.{any_map}
 use Rattle.wf_semantics.proofs.Facts.{IsChart, chart_of}
 use Rattle.wf_semantics.proofs.Charts.{falls}
-use Rattle.wf_scopes.specs.Tables.{ancestor_ids, state_id, lineages_of}
+use Rattle.wf_scopes.specs.Tables.{ancestor_ids, lineages_of}
 use Rattle.std.proofs.lemmas.List.Elements.{filter-append}
-use Rattle.wf_scopes.proofs.Rows.{row_at, row_len, range_more}
+use Rattle.wf_model.proofs.Rows.{row_at, row_len, range_more}
 
 -- a state's ancestors are its parent and that one's ancestors
 pub ancestors_step : (chart : Chart) → IsChart chart → (s : ℕ) → ancestors chart s ≡ list_from (λ p. p ∷ ancestors chart p) (parent chart s)

@@ -3,11 +3,9 @@ use Rattle.std.specs.Prelude.{ℕ, Bool, List, map}
 use Rattle.wf_model.specs.declared.ids.StateId.{StateId}
 use Rattle.wf_model.specs.declared.chart.Chart.{Chart}
 use Rattle.wf_model.specs.Tree.{all_states, all_transitions, ancestors, scope}
+use Rattle.wf_model.specs.Ids.{state_id}
 use Rattle.wf_semantics.specs.Configuration.{is_in}
 use Rattle.wf_semantics.specs.Entry.{entry_tree}
-
-abbrev pub state_id : ℕ → StateId
-state_id s = record { 0 = s }
 
 -- the proper ancestors of a state, the lowest first
 abbrev pub ancestor_ids : Chart → ℕ → List StateId

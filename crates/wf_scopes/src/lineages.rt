@@ -26,7 +26,7 @@ fn lineage(
 }
 
 /// The proper ancestors of each state, the lowest first. Grows with the states times their depth.
-#[tactic(auto, using(crate::proofs::Lines::line_read, crate::proofs::Lines::parent_low, crate::proofs::Rows::row_more, crate::proofs::Rows::row_len), unfolding(crate::specs::Tables::lineages_of))]
+#[tactic(auto, using(crate::proofs::Lines::line_read, crate::proofs::Lines::parent_low, wf_model::proofs::Rows::row_more, wf_model::proofs::Rows::row_len), unfolding(crate::specs::Tables::lineages_of))]
 pub fn lineages(alloc: Global, chart: &Chart) -> Result<List<List<StateId>>, NoMemory>
     requires { IsAccepted chart.now }
     ensures { IfOk result (λ table. table ≡ lineages_of chart.now) }

@@ -1,7 +1,7 @@
 -- The ancestors of a state.
 use Rattle.std.proofs.Common.{◌≡◌, ℕ, zero, suc, ◌<◌, ◌≤◌, ◌==◌, ◌||◌, ◌⊎◌, Bool, true, List, ◌∷◌, Option, Some, None, inl, inr, refl, sym, ap, ◌∙◌, subst, arith, eqb-true, true≢false}
 use Rattle.wf_model.specs.Tree.{is_among, ancestors_by}
-use Rattle.wf_semantics.proofs.Bools.{or_cases, or_right}
+use Rattle.wf_model.proofs.Bools.{or_cases, or_right}
 use Rattle.wf_semantics.proofs.Setting.{IsAncestry}
 
 -- each parent has a smaller number, for states up to n

@@ -6,7 +6,7 @@ use Rattle.wf_model.specs.declared.chart.Chart.{Chart}
 use Rattle.wf_model.specs.declared.chart.Kind.TheVariants.{And}
 use Rattle.wf_model.specs.Tree.{kind, parent, children, is_child_of, is_above, is_among}
 use Rattle.wf_semantics.specs.Configuration.{Tree, Trees, Leaf, OrNode, AndNode, NoTrees, More, roots, IsTreeOf, AreTreesOf}
-use Rattle.wf_semantics.proofs.Bools.{or_cases, or_left, or_right, not_true}
+use Rattle.wf_model.proofs.Bools.{or_cases, or_left, or_right, not_true}
 use Rattle.wf_semantics.proofs.Lists.{among_mem, range_mem, filter_mem}
 use Rattle.wf_semantics.proofs.Ancestors.{Falls, below_low, above_step, ancestry}
 use Rattle.wf_semantics.proofs.Setting.{IsShaped, AreShaped, IsAncestry}

@@ -9,7 +9,7 @@ use Rattle.wf_model.specs.declared.chart.Kind.{Kind}
 use Rattle.wf_model.specs.declared.chart.Kind.TheVariants.{Basic, Or, And}
 use Rattle.wf_model.specs.Tree.{kind, parent, parent_of, children, all_states, is_child_of, is_or}
 use Rattle.wf_model.specs.Accepted.{has_child}
-use Rattle.wf_semantics.proofs.Bools.{Mem, or_cases, or_left, or_right}
+use Rattle.wf_model.proofs.Bools.{Mem, or_cases, or_left, or_right}
 use Rattle.wf_semantics.proofs.Lists.{mem_range, mem_filter, filter_mem}
 
 pub lt_or_ge : (a b : ℕ) → (a < b) ⊎ (b ≤ a)

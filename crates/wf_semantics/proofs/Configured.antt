@@ -8,7 +8,7 @@ use Rattle.wf_semantics.specs.Configuration.{Tree, Trees, Leaf, OrNode, AndNode,
 use Rattle.wf_semantics.specs.Entry.{trees, node, grown, first_child}
 use Rattle.wf_semantics.specs.Picks.{PicksChildren, picked_by}
 use Rattle.wf_semantics.specs.Bits.{active_child, tree_of_bits}
-use Rattle.wf_semantics.proofs.Bools.{and_both, not_true}
+use Rattle.wf_model.proofs.Bools.{and_both, not_true}
 use Rattle.wf_semantics.proofs.Lists.{find_some, find_none}
 use Rattle.wf_semantics.proofs.Ancestors.{by_up}
 use Rattle.wf_semantics.proofs.Setting.{AreShaped}

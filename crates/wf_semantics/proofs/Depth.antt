@@ -7,7 +7,7 @@ use Rattle.wf_model.specs.Tree.{kind, children}
 use Rattle.wf_semantics.specs.Configuration.{Tree, Trees, Leaf, OrNode, AndNode, More}
 use Rattle.wf_semantics.specs.Entry.{trees, node, grown, tree_by}
 use Rattle.wf_semantics.proofs.Facts.{IsChart}
-use Rattle.wf_semantics.proofs.Bools.{Mem}
+use Rattle.wf_model.proofs.Bools.{Mem}
 use Rattle.wf_semantics.proofs.Charts.{falls}
 use Rattle.wf_semantics.specs.Picks.{PicksChildren}
 use Rattle.wf_semantics.proofs.Children.{kind_past, mem_child_parent}

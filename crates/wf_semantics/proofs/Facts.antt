@@ -12,7 +12,8 @@ use Rattle.wf_model.specs.declared.chart.Kind.{Kind}
 use Rattle.wf_model.specs.declared.chart.Kind.TheVariants.{Basic, Or, And}
 use Rattle.wf_model.specs.Tree.{kind, is_or, parent, parent_of, children, source, target, ancestors, is_above}
 use Rattle.wf_model.specs.Accepted.{IsAccepted, is_accepted, is_small, is_numbered, is_named, is_shaped, is_sorted, all_of, all_numbered, follows, suits, has_child, is_placed_state, is_shaped_state, is_known_transition, is_small_transition, spares_root, is_known_activity, is_placed_event, are_outputs, is_known_action, is_known_expr}
-use Rattle.wf_semantics.proofs.Bools.{and_both}
+use Rattle.wf_model.proofs.Items.{all_at, numbered_at}
+use Rattle.wf_model.proofs.Bools.{and_both}
 use Rattle.wf_semantics.proofs.Children.{lt_or_ge, item_at, or_of, kind_past, has_children, has_no_children}
 
 -- what the laws rest on
@@ -37,24 +38,6 @@ pub record IsChart (chart : Chart) : Type 0 where
   -- there is an event 0, and each transition's event is one of the chart
   pub some_event : 0 < length chart.events
   pub known_event : (t : ℕ) (trans : Transition) (event : EventId) → slice_get chart.transitions t ≡ Some trans → trans.event ≡ Some event → event.0 < length chart.events
-
--- an item of a list whose items all pass
-pub all_at : {A : Type 0} → (test : A → Bool) (xs : List A) → list_all test xs ≡ true → (i : ℕ) (x : A) → slice_get xs i ≡ Some x → test x ≡ true
-all_at test [] h i x e = cc
-all_at test (y ∷ xs) h zero x e = let same : y ≡ x = cc in ap test (sym same) ∙ (and_both (test y) (list_all test xs) h).0
-all_at test (y ∷ xs) h (suc i) x e = all_at test xs (and_both (test y) (list_all test xs) h).1 i x e
-
--- an item of a list whose items all pass with their numbers
-pub numbered_at : {A : Type 0} → (test : ℕ → A → Bool) (xs : List A) → all_numbered test xs ≡ true → (i : ℕ) (x : A) → slice_get xs i ≡ Some x → test i x ≡ true
-numbered_at {A = A} test xs h i x e = go 0 i xs h (omega arith) e
-  where
-    go : (a j : ℕ) (ys : List A) → list_all (λ p. test p.0 p.1) (enumerate_from a ys) ≡ true → a + j ≡ i → slice_get ys j ≡ Some x → test i x ≡ true
-    go a j [] h s e = cc
-    go a zero (y ∷ ys) h s e =
-        let same : y ≡ x = cc in
-        let at : a ≡ i = omega arith in
-        subst (λ (k : ℕ). test k x ≡ true) at (subst (λ (z : A). test a z ≡ true) same (and_both (test a y) (list_all (λ p. test p.0 p.1) (enumerate_from (a + 1) ys)) h).0)
-    go a (suc j) (y ∷ ys) h s e = go (a + 1) j ys (and_both (test a y) (list_all (λ p. test p.0 p.1) (enumerate_from (a + 1) ys)) h).1 (omega arith) e
 
 -- the rules, one by one
 pub record AreRules (chart : Chart) : Type 0 where

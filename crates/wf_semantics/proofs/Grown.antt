@@ -8,7 +8,7 @@ use Rattle.wf_semantics.specs.Configuration.{Tree, Trees, Leaf, OrNode, AndNode,
 use Rattle.wf_semantics.specs.Entry.{trees, node, grown, tree_by, first_child, default_tree, child_towards, entry_tree}
 use Rattle.wf_semantics.specs.Walk.{entered, walked, all_walked, first_of_scope, new_tree}
 use Rattle.wf_semantics.specs.Picks.{PicksChildren, picked_by}
-use Rattle.wf_semantics.proofs.Bools.{Mem, or_left, or_right, and_both, bool_iff}
+use Rattle.wf_model.proofs.Bools.{Mem, or_left, or_right, and_both, bool_iff}
 use Rattle.wf_semantics.proofs.Lists.{range_mem, find_some}
 use Rattle.wf_semantics.proofs.Children.{or_of, kind_past, parent_inside, mem_children, mem_child_parent}
 use Rattle.wf_semantics.proofs.Facts.{IsChart}

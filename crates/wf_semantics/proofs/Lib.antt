@@ -1,5 +1,4 @@
 mod WorkedCharts
-pub mod Bools
 pub mod Lists
 pub mod Setting
 pub mod Ancestors

@@ -2,7 +2,7 @@
 use Rattle.std.proofs.Common.{◌≡◌, ℕ, zero, suc, ◌+◌, ◌<◌, ◌≤◌, ◌==◌, cond, ◌⊎◌, Bool, true, false, List, [], ◌∷◌, Some, None, filter, find, inl, inr, refl, sym, ap, ◌∙◌, arith, eqb-true, eq-eqb, true≢false}
 use Rattle.std.specs.List.{range_with_len}
 use Rattle.wf_model.specs.Tree.{is_among}
-use Rattle.wf_semantics.proofs.Bools.{Mem, or_cases, or_left, or_right}
+use Rattle.wf_model.proofs.Bools.{Mem, or_cases, or_left, or_right}
 
 pub among_mem : (ns : List ℕ) (n : ℕ) → is_among ns n ≡ true → Mem n ns
 among_mem [] n h = true≢false (sym h)

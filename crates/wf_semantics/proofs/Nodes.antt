@@ -2,7 +2,7 @@
 use Rattle.std.proofs.Common.{◌≡◌, ℕ, ◌≤◌, ◌==◌, ◌||◌, ◌⊎◌, Bool, true, false, Option, Some, inl, inr, refl, sym, ◌∙◌, subst, arith, eqb-true, true≢false, eq-eqb}
 use Rattle.wf_model.specs.Tree.{is_among}
 use Rattle.wf_semantics.specs.Configuration.{Tree, Trees, Leaf, OrNode, AndNode, NoTrees, More, root, roots, is_in, is_in_some}
-use Rattle.wf_semantics.proofs.Bools.{or_cases, or_left}
+use Rattle.wf_model.proofs.Bools.{or_cases, or_left}
 use Rattle.wf_semantics.proofs.Setting.{IsShaped, AreShaped, IsAncestry}
 
 -- z is a or below it

@@ -3,7 +3,7 @@ use Rattle.std.proofs.Common.{◌≡◌, ℕ, ◌<◌, ◌≤◌, ◌==◌, ◌|
 use Rattle.wf_model.specs.declared.chart.Chart.{Chart}
 use Rattle.wf_model.specs.Tree.{parent, is_above, is_among}
 use Rattle.wf_semantics.specs.Configuration.{Tree, Trees, root, roots, is_in, is_in_some, IsTreeOf}
-use Rattle.wf_semantics.proofs.Bools.{not_true}
+use Rattle.wf_model.proofs.Bools.{not_true}
 use Rattle.wf_semantics.proofs.Ancestors as ancestors
 use Rattle.wf_semantics.proofs.Setting.{AreShaped}
 use Rattle.wf_semantics.proofs.Nodes as nodes

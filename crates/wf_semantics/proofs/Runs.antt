@@ -9,7 +9,7 @@ use Rattle.wf_semantics.specs.Configuration.{Tree, is_in, IsConfiguration}
 use Rattle.wf_semantics.specs.Snapshot.{Snapshot, is_active, has_event, has_guard, is_ready, is_enabled}
 use Rattle.wf_semantics.specs.Run.{CentralState, first_state, next_state, after_steps, central_run, snapshot_of, fired_in}
 use Rattle.wf_semantics.specs.Flat.{fires, HaveActiveSources}
-use Rattle.wf_semantics.proofs.Bools.{and_both}
+use Rattle.wf_model.proofs.Bools.{and_both}
 use Rattle.wf_semantics.proofs.Children.{item_at}
 use Rattle.wf_semantics.proofs.Facts.{IsChart}
 use Rattle.wf_semantics.proofs.Grown.{default_configuration, new_configuration}

@@ -2,7 +2,7 @@
 use Rattle.std.proofs.Common.{◌≡◌, ℕ, zero, suc, ◌<◌, ◌≤◌, ◌==◌, ◌||◌, ◌&&◌, cond, Bool, true, false, length, Option, Some, None, find, unwrap_or, inl, inr, refl, sym, ap, ◌∙◌, arith, eqb-true, true≢false}
 use Rattle.wf_model.specs.declared.chart.Chart.{Chart}
 use Rattle.wf_model.specs.Tree.{kind, parent, is_or, is_above, is_among, ancestors, ancestors_by, scope, source, target}
-use Rattle.wf_semantics.proofs.Bools.{or_cases, and_both, and_true}
+use Rattle.wf_model.proofs.Bools.{or_cases, and_both, and_true}
 use Rattle.wf_semantics.proofs.Lists.{among_mem, mem_among, find_some, find_none}
 use Rattle.wf_semantics.proofs.Ancestors.{by_up, below_low}
 use Rattle.wf_semantics.proofs.Facts.{IsChart}

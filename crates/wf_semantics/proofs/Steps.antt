@@ -9,7 +9,7 @@ use Rattle.wf_semantics.specs.Configuration.{Tree, root, is_in, IsConfiguration}
 use Rattle.wf_semantics.specs.Entry.{entry_tree}
 use Rattle.wf_semantics.specs.Walk.{first_of_scope, new_tree, fired, fired_of}
 use Rattle.wf_semantics.specs.Flat.{blocks, blockers, fires, HaveActiveSources}
-use Rattle.wf_semantics.proofs.Bools.{Mem, or_cases, or_left, or_right, and_both, and_true, any_mem, mem_any, bool_iff, bit}
+use Rattle.wf_model.proofs.Bools.{Mem, or_cases, or_left, or_right, and_both, and_true, any_mem, mem_any, bool_iff, bit}
 use Rattle.wf_semantics.proofs.Lists.{among_mem, mem_among, mem_range, range_mem, mem_filter, filter_mem, filter_agree, find_some, find_none, find_least}
 use Rattle.wf_semantics.proofs.Setting.{IsShaped, IsSetting}
 use Rattle.wf_semantics.proofs.Children.{lt_or_ge}

@@ -9,7 +9,7 @@ use Rattle.wf_model.specs.Tree.{kind, parent, children, is_child_of, is_above}
 use Rattle.wf_semantics.specs.Configuration.{is_in}
 use Rattle.wf_semantics.specs.Entry.{first_child, child_towards, tree_by}
 use Rattle.wf_semantics.specs.Picks.{PicksChildren, picked_by}
-use Rattle.wf_semantics.proofs.Bools.{or_cases, or_left, or_right, not_true, bool_iff}
+use Rattle.wf_model.proofs.Bools.{or_cases, or_left, or_right, not_true, bool_iff}
 use Rattle.wf_semantics.proofs.Lists.{find_no}
 use Rattle.wf_semantics.proofs.Children.{lt_or_ge, child_of, parent_inside, mem_child_parent}
 use Rattle.wf_semantics.proofs.Facts.{IsChart}

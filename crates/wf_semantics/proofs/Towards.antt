@@ -7,7 +7,7 @@ use Rattle.wf_model.specs.Tree.{kind, parent, children, is_above, scope, target}
 use Rattle.wf_semantics.specs.Configuration.{is_in, root}
 use Rattle.wf_semantics.specs.Entry.{tree_by, first_child, child_towards, entry_tree}
 use Rattle.wf_semantics.specs.Picks.{picked_by}
-use Rattle.wf_semantics.proofs.Bools.{Mem, or_cases, or_left, or_right, and_true, not_true}
+use Rattle.wf_model.proofs.Bools.{Mem, or_cases, or_left, or_right, and_true, not_true}
 use Rattle.wf_semantics.proofs.Lists.{find_some, find_none, find_no}
 use Rattle.wf_semantics.proofs.Ancestors.{by_up}
 use Rattle.wf_semantics.proofs.Children.{mem_children, mem_child_parent, parent_inside}

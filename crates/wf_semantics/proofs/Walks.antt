@@ -3,7 +3,7 @@ use Rattle.std.proofs.Common.{◌≡◌, ℕ, ◌<◌, ◌≤◌, ◌==◌, ◌|
 use Rattle.std.specs.List.{list_any}
 use Rattle.wf_semantics.specs.Configuration.{Tree, Trees, Leaf, OrNode, AndNode, NoTrees, More, root, is_in, is_in_some}
 use Rattle.wf_semantics.specs.Walk.{entered, fired_here, walked, all_walked, fired, all_fired}
-use Rattle.wf_semantics.proofs.Bools.{or_cases, Mem, mem_cases, mem_left, mem_right, any-append, any_mem, not_true, bit, bit_same, bit_root, bit_fired, bit_more}
+use Rattle.wf_model.proofs.Bools.{or_cases, Mem, mem_cases, mem_left, mem_right, any-append, any_mem, not_true, bit, bit_same, bit_root, bit_fired, bit_more}
 use Rattle.wf_semantics.proofs.Setting.{IsShaped, AreShaped, IsSetting}
 use Rattle.wf_semantics.proofs.Nodes.{Under, parent_above, above_child, below_child, under_low, under_trans, node_under, apart_roots, some_under_root, UnderSome, under_some_above, under_some_trans, between}
 

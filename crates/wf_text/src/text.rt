@@ -13,7 +13,6 @@ use crate::transitions::transitions;
 use std::alloc::Global;
 use wf_cursor::{Cursor, Piece, TextFault};
 use wf_lex::{Token, tokens};
-use wf_model::limits::{MAX_INPUT, MAX_TOKENS};
 use wf_model::{Chart, List, Name, Transition};
 
 #[tactic(auto, unfolding(crate::specs::Text::contents))]

@@ -6,7 +6,7 @@ use lib.Chars.{codes}
 use Rattle.wf_model.specs.Limits.{max_input, max_lines, max_report}
 use Rattle.wf_model.specs.declared.status.Status.{Status}
 use Rattle.wf_model.specs.declared.status.Status.TheVariants as status
-use Rattle.wf_io.specs.Causes.{Rose}
+use Rattle.wf_model.specs.Faults.{Rose}
 use Rattle.wf_model.specs.declared.chart.Chart.{Chart}
 use Rattle.wf_refusals.specs.Lines.{refusal}
 use Rattle.wf_refusals.specs.Scripts.{too_many_lines, too_long_report}

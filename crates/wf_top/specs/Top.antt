@@ -4,7 +4,7 @@ use Rattle.std.specs.Io.KnownBytes.{Appends, Keeps, IsAtEnd}
 use lib.Chars.{codes}
 use Rattle.wf_model.specs.declared.status.Status.{Status}
 use Rattle.wf_model.specs.declared.status.Status.TheVariants as status
-use Rattle.wf_io.specs.Causes.{Rose}
+use Rattle.wf_model.specs.Faults.{Rose}
 use Rattle.wf_refusals.specs.Lines.{refusal}
 use Rattle.wf_top.specs.declared.command.Command.{Command}
 use Rattle.wf_top.specs.declared.answer.Answer.{Answer}

@@ -1,7 +1,7 @@
 //! The top call.
 ghost use Rattle.std.specs.Prelude.{◌≡◌, ◌⊎◌, ◌≤◌, ℕ, length, take};
 ghost use Rattle.std.specs.Io.KnownBytes.{Appends};
-ghost use Rattle.wf_io.specs.Causes.{Rose};
+ghost use Rattle.wf_model.specs.Faults.{Rose};
 ghost use Rattle.wf_top.specs.Top.{MayAnswer};
 ghost use Rattle.wf_model.specs.declared.status.Status.TheVariants.{WriteFault};
 

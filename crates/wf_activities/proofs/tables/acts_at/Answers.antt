@@ -1,11 +1,11 @@
 use Rattle.std.proofs.Common.{◌≡◌, rules, length, map, filter, ◌∙◌, ap, sym, arith, [], ◌∷◌, ◌++◌, append-nil}
 use Rattle.std.specs.List.{range_with_len}
 use Rattle.wf_semantics.specs.Admission.{is_act_at}
-use Rattle.wf_activities.specs.Stock.{act_id}
 use Rattle.wf_activities.proofs.Rows.{filter_more}
 use Rattle.wf_activities.proofs.ChartTables.{few}
 use Rattle.wf_activities.proofs.tables.acts_at.Goals as goal
 use Rattle.wf_activities.proofs.tables.acts_at.Goals.{then-is_act_at+in_ok-push, else-is_act_at}
+use Rattle.wf_model.specs.Ids.{act_id}
 
 pub overflow_cast-id : goal.overflow_cast-id
 overflow_cast-id c = omega (arith, (few c.args.chart.now c.requires).1)

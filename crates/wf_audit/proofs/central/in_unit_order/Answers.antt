@@ -1,5 +1,5 @@
 use Rattle.std.proofs.Common.{◌++◌, ◌==◌, filter, arith, sym, ap, ◌∙◌}
-use Rattle.wf_audit.proofs.Few.{few_units}
+use Rattle.wf_model.proofs.Few.{few_units}
 use Rattle.wf_audit.proofs.Sights.{pieces_more}
 use Rattle.wf_audit.proofs.central.in_unit_order.Goals as goal
 

@@ -3,9 +3,9 @@ use Rattle.wf_semantics.specs.Configuration.{is_in}
 use Rattle.wf_semantics.proofs.Facts.{chart_of}
 use Rattle.wf_scopes.proofs.Lines.{filter_more_by}
 use Rattle.wf_central.specs.Kept.{central_of}
-use Rattle.wf_audit.specs.CentralText.{state_id}
 use Rattle.wf_audit.proofs.central.states_in.Goals as goal
 use Rattle.wf_audit.proofs.central.states_in.Goals.{then-is_in+in_ok-push, else-is_in}
+use Rattle.wf_model.specs.Ids.{state_id}
 
 pub overflow_cast-id : goal.overflow_cast-id
 overflow_cast-id c = omega (arith, (chart_of c.args.chart.now c.requires.accepted).few_states)

@@ -1,7 +1,7 @@
 use Rattle.std.proofs.Common.{◌≡◌, ◌<◌, ◌∙◌, ap, sym, arith, length, [], ◌∷◌, ◌++◌, take}
 use Rattle.wf_central.specs.Kept.{central_of}
 use Rattle.wf_audit.specs.CentralText.{output}
-use Rattle.wf_audit.proofs.Few.{few_vars}
+use Rattle.wf_model.proofs.Few.{few_vars}
 use Rattle.wf_audit.proofs.Variables.{outputs_from, outputs_more, store_whole}
 use Rattle.wf_audit.proofs.central.vars_of.Goals as goal
 

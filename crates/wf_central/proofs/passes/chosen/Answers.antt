@@ -3,7 +3,7 @@ use Rattle.wf_model.specs.Tree.{scope, all_states}
 use Rattle.wf_semantics.proofs.Facts.{chart_of}
 use Rattle.wf_semantics.proofs.Scopes.{scope_facts}
 use Rattle.wf_semantics.proofs.Places.{above_low}
-use Rattle.wf_scopes.proofs.Rows.{row_len}
+use Rattle.wf_model.proofs.Rows.{row_len}
 use Rattle.wf_central.specs.Passes.{chosen_from}
 use Rattle.wf_central.proofs.Choosing.{passed_over, taken_up, none_yet, all_chosen}
 use Rattle.wf_central.proofs.passes.chosen.Goals as goal

@@ -1,9 +1,10 @@
 use Rattle.std.proofs.Common.{◌∙◌, ap, sym, arith, [], ◌∷◌, ◌++◌, append-nil}
 use Rattle.wf_semantics.proofs.Facts.{chart_of}
 use Rattle.wf_scopes.proofs.Lines.{filter_more_by}
-use Rattle.wf_central.specs.Passes.{trans_id, fired_by}
+use Rattle.wf_central.specs.Passes.{fired_by}
 use Rattle.wf_central.proofs.passes.fired.Goals as goal
 use Rattle.wf_central.proofs.passes.fired.Goals.{then-is_fired+in_ok-push, else-is_fired}
+use Rattle.wf_model.specs.Ids.{trans_id}
 
 pub overflow_cast-id : goal.overflow_cast-id
 overflow_cast-id c = omega (arith, (chart_of c.args.chart.now c.requires.accepted).few_transitions)

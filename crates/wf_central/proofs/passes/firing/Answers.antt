@@ -1,6 +1,6 @@
 use Rattle.std.proofs.Common.{arith, ◌∙◌}
 use Rattle.wf_semantics.proofs.Facts.{chart_of}
-use Rattle.wf_scopes.proofs.Rows.{row_more}
+use Rattle.wf_model.proofs.Rows.{row_more}
 use Rattle.wf_central.specs.Passes.{firing_by}
 use Rattle.wf_central.proofs.passes.firing.Goals as goal
 

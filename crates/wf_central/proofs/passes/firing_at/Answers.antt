@@ -2,8 +2,8 @@ use Rattle.std.proofs.Common.{None, is_some, cond, Bool, sym, ap, ◌∙◌}
 use Rattle.std.specs.List.{list_any}
 use Rattle.wf_model.specs.declared.ids.StateId.{StateId}
 use Rattle.wf_model.specs.Tree.{ancestors}
-use Rattle.wf_semantics.proofs.Bools.{any_map}
-use Rattle.wf_scopes.specs.Tables.{state_id}
+use Rattle.wf_model.specs.Ids.{state_id}
+use Rattle.wf_model.proofs.Bools.{any_map}
 use Rattle.wf_central.specs.Passes.{at}
 use Rattle.wf_central.proofs.passes.firing_at.Goals as goal
 

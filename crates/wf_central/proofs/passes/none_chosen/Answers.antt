@@ -1,6 +1,6 @@
 use Rattle.std.proofs.Common.{◌≡◌, rules, length, map, None, ap, refl, ◌∙◌}
 use Rattle.std.specs.List.{range_with_len}
-use Rattle.wf_scopes.proofs.Rows.{row_more}
+use Rattle.wf_model.proofs.Rows.{row_more}
 use Rattle.wf_central.proofs.passes.none_chosen.Goals as goal
 
 pub loop-state-preserved : goal.loop-state-preserved

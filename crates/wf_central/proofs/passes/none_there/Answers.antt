@@ -1,6 +1,6 @@
 use Rattle.std.proofs.Common.{◌≡◌, rules, length, map, false, ap, refl, ◌∙◌}
 use Rattle.std.specs.List.{range_with_len}
-use Rattle.wf_scopes.proofs.Rows.{row_more}
+use Rattle.wf_model.proofs.Rows.{row_more}
 use Rattle.wf_central.proofs.passes.none_there.Goals as goal
 
 pub loop-event-preserved : goal.loop-event-preserved

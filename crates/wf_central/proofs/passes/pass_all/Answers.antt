@@ -3,7 +3,7 @@ use Rattle.wf_semantics.specs.Snapshot.{is_enabled}
 use Rattle.wf_semantics.specs.Run.{snapshot_of, fired_in, next_state}
 use Rattle.wf_semantics.proofs.Facts.{chart_of}
 use Rattle.wf_semantics.proofs.Runs.{enabled_sources, snapshot_shows}
-use Rattle.wf_scopes.proofs.Rows.{row_agree}
+use Rattle.wf_model.proofs.Rows.{row_agree}
 use Rattle.wf_central.specs.Sight.{seeing}
 use Rattle.wf_central.specs.Kept.{bit}
 use Rattle.wf_central.specs.Made.{AreBits, MakesWalk, seen_of}

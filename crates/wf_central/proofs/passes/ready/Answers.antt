@@ -2,7 +2,7 @@ use Rattle.std.proofs.Common.{◌≡◌, ◌<◌, get_or, rules, length, map, ap
 use Rattle.std.specs.List.{range_with_len}
 use Rattle.std.specs.Option.{option_map}
 use Rattle.wf_semantics.specs.Snapshot.{is_ready, is_enabled}
-use Rattle.wf_scopes.proofs.Rows.{row_more}
+use Rattle.wf_model.proofs.Rows.{row_more}
 use Rattle.wf_scopes.proofs.Lines.{trans_get}
 use Rattle.wf_central.specs.Sight.{seeing}
 use Rattle.wf_central.specs.Kept.{bit}

@@ -1,10 +1,11 @@
 use Rattle.std.proofs.Common.{length, map, ap, ◌∙◌}
 use Rattle.wf_semantics.specs.Configuration.{is_in}
 use Rattle.wf_semantics.specs.Walk.{new_tree}
-use Rattle.wf_scopes.proofs.Rows.{row_agree}
-use Rattle.wf_central.specs.Passes.{trans_id, fired_by, moved_by}
+use Rattle.wf_model.proofs.Rows.{row_agree}
+use Rattle.wf_central.specs.Passes.{fired_by, moved_by}
 use Rattle.wf_central.proofs.Passing.{firing_known, fired_made, moved_made, all_known}
 use Rattle.wf_central.proofs.passes.walk.Goals as goal
+use Rattle.wf_model.specs.Ids.{trans_id}
 
 pub moved-requires-clause-known : goal.moved-requires-clause-known
 moved-requires-clause-known c =

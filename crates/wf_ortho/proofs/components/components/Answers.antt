@@ -4,7 +4,7 @@ use Rattle.wf_model.specs.declared.chart.Chart.{Chart}
 use Rattle.wf_semantics.specs.Configuration.{is_in}
 use Rattle.wf_semantics.specs.Entry.{default_tree}
 use Rattle.wf_semantics.proofs.Facts.{chart_of}
-use Rattle.wf_scopes.proofs.Rows.{row_at, row_len, row_more}
+use Rattle.wf_model.proofs.Rows.{row_at, row_len, row_more}
 use Rattle.wf_parts.specs.Components.{component_of}
 use Rattle.wf_ortho.proofs.components.components.Goals as goal
 

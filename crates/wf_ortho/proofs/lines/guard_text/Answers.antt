@@ -1,7 +1,7 @@
 use Rattle.std.proofs.Common.{◌≡◌, length, map, refl, arith, ap, ◌∙◌}
 use Rattle.std.specs.List.{range_with_len}
 use Rattle.wf_model.specs.declared.part.Flat.{Flat}
-use Rattle.wf_scopes.proofs.Rows.{row_at, row_len}
+use Rattle.wf_model.proofs.Rows.{row_at, row_len}
 use Rattle.wf_parts.specs.Components.{flat_of, component_of}
 use Rattle.wf_ortho.proofs.lines.guard_text.Goals as goal
 

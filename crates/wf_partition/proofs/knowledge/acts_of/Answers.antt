@@ -2,7 +2,7 @@ use Rattle.std.proofs.Common.{◌≡◌, ◌<◌, ◌∙◌, length, get_or, rul
 use Rattle.wf_model.specs.declared.part.KnownActivity.{KnownActivity}
 use Rattle.wf_parts.specs.Known.{knows_act}
 use Rattle.wf_parts.specs.Parts.{known_activity}
-use Rattle.wf_partition.proofs.Few.{few_acts}
+use Rattle.wf_model.proofs.Few.{few_acts}
 use Rattle.wf_partition.proofs.Known.{act_known}
 use Rattle.wf_partition.proofs.Numbered.{kept, left_out, all_kept}
 use Rattle.wf_partition.proofs.knowledge.acts_of.Goals as goal

@@ -1,7 +1,7 @@
 use Rattle.std.proofs.Common.{◌≡◌, ◌<◌, ◌∙◌, length, get_or, rules, sym, arith, refl}
 use Rattle.wf_parts.specs.Known.{knows_event}
 use Rattle.wf_parts.specs.Parts.{known_event}
-use Rattle.wf_partition.proofs.Few.{few_events}
+use Rattle.wf_model.proofs.Few.{few_events}
 use Rattle.wf_partition.proofs.Known.{event_known}
 use Rattle.wf_partition.proofs.Numbered.{kept, left_out, all_kept}
 use Rattle.wf_partition.proofs.knowledge.events_of.Goals as goal

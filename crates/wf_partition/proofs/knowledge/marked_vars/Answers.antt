@@ -1,6 +1,6 @@
 use Rattle.std.proofs.Common.{◌≡◌, ◌<◌, ◌∙◌, length, get_or, rules, sym, arith, refl, false}
 use Rattle.wf_parts.specs.Parts.{known_variable}
-use Rattle.wf_partition.proofs.Few.{few_vars}
+use Rattle.wf_model.proofs.Few.{few_vars}
 use Rattle.wf_partition.proofs.Numbered.{kept, left_out, all_kept}
 use Rattle.wf_partition.proofs.knowledge.marked_vars.Goals as goal
 use Rattle.wf_partition.proofs.knowledge.marked_vars.Goals.{then-is_set+in_ok-push, else-is_set}

@@ -1,6 +1,6 @@
 use Rattle.std.proofs.Common.{◌∙◌, arith, get_or, ap, refl}
 use Rattle.wf_parts.specs.Parts.{part_of}
-use Rattle.wf_partition.proofs.Few.{few_units}
+use Rattle.wf_model.proofs.Few.{few_units}
 use Rattle.wf_partition.proofs.Known.{name_read}
 use Rattle.wf_partition.proofs.part.part_from.Goals as goal
 

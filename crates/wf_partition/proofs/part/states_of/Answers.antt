@@ -1,7 +1,7 @@
 use Rattle.std.proofs.Common.{◌≡◌, ◌<◌, ◌∙◌, length, get_or, rules, sym, ap, arith}
 use Rattle.wf_model.specs.declared.part.KnownState.{KnownState}
+use Rattle.wf_model.specs.Ids.{state_id}
 use Rattle.wf_semantics.proofs.Facts.{chart_of}
-use Rattle.wf_parts.specs.Components.{state_id}
 use Rattle.wf_parts.specs.Known.{knows_state}
 use Rattle.wf_parts.specs.Parts.{known_state}
 use Rattle.wf_partition.proofs.Known.{state_known, first_read}

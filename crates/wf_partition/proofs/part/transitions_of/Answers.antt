@@ -1,6 +1,6 @@
 use Rattle.std.proofs.Common.{◌≡◌, ◌<◌, ◌∙◌, length, get_or, rules, sym, arith, false}
 use Rattle.wf_semantics.proofs.Facts.{chart_of}
-use Rattle.wf_scopes.proofs.Rows.{row_at}
+use Rattle.wf_model.proofs.Rows.{row_at}
 use Rattle.wf_scopes.proofs.Lines.{source_read}
 use Rattle.wf_parts.specs.Known.{concerns}
 use Rattle.wf_parts.specs.Parts.{part_transition}

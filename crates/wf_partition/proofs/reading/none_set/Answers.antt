@@ -1,5 +1,5 @@
 use Rattle.std.proofs.Common.{◌∙◌, false, refl}
-use Rattle.wf_scopes.proofs.Rows.{row_more}
+use Rattle.wf_model.proofs.Rows.{row_more}
 use Rattle.wf_partition.proofs.reading.none_set.Goals as goal
 
 pub loop-k-preserved : goal.loop-k-preserved

@@ -1,7 +1,7 @@
 use Rattle.std.proofs.Common.{◌≡◌, ◌<◌, length, rules, get_or, false, ◌∙◌, subst}
 use Rattle.std.specs.List.{list_any, range_with_len}
 use Rattle.wf_parts.specs.Known.{concerns}
-use Rattle.wf_scopes.proofs.Rows.{row_at}
+use Rattle.wf_model.proofs.Rows.{row_at}
 use Rattle.wf_partition.specs.Marked.{AreReads, counted_reads, reads_at}
 use Rattle.wf_partition.proofs.Adding.{counted_at, reads_more}
 use Rattle.wf_partition.proofs.reading.read_by.Goals as goal

@@ -4,7 +4,7 @@ use Rattle.wf_model.specs.declared.ids.StateId.{StateId}
 use Rattle.wf_model.specs.Tree.{parent}
 use Rattle.wf_semantics.specs.Configuration.{is_in}
 use Rattle.wf_semantics.specs.Entry.{default_tree}
-use Rattle.wf_scopes.proofs.Rows.{row_len}
+use Rattle.wf_model.proofs.Rows.{row_len}
 use Rattle.wf_scopes.proofs.DefaultIn.{default_low, default_child, default_top}
 use Rattle.wf_scopes.proofs.defaults.is_default.Goals as goal
 

@@ -1,9 +1,10 @@
 use Rattle.std.proofs.Common.{◌≡◌, ◌<◌, arith, get_or, length, ◌∙◌, ap, sym, rules}
 use Rattle.wf_model.specs.declared.ids.StateId.{StateId}
 use Rattle.wf_model.specs.Tree.{scope}
+use Rattle.wf_model.specs.Ids.{state_id}
 use Rattle.wf_semantics.proofs.Facts.{chart_of}
-use Rattle.wf_scopes.specs.Tables.{scopes_of, entries_of, entry_row, state_id}
-use Rattle.wf_scopes.proofs.Rows.{row_at, row_len, row_more}
+use Rattle.wf_scopes.specs.Tables.{scopes_of, entries_of, entry_row}
+use Rattle.wf_model.proofs.Rows.{row_at, row_len, row_more}
 use Rattle.wf_scopes.proofs.Lines.{target_read}
 use Rattle.wf_scopes.proofs.entries.entries.Goals as goal
 

@@ -5,7 +5,7 @@ use Rattle.wf_model.specs.Tree.{parent}
 use Rattle.wf_semantics.specs.Configuration.{is_in}
 use Rattle.wf_semantics.specs.Entry.{entry_tree}
 use Rattle.wf_semantics.proofs.Facts.{chart_of}
-use Rattle.wf_scopes.proofs.Rows.{row_len}
+use Rattle.wf_model.proofs.Rows.{row_len}
 use Rattle.wf_scopes.proofs.Enters.{child_high, entered_by, entry_none}
 use Rattle.wf_scopes.proofs.entries.is_entered.Goals as goal
 

@@ -1,7 +1,7 @@
 use Rattle.std.proofs.Common.{◌≡◌, ◌<◌, get_or, length, map, rules, ◌∙◌}
 use Rattle.std.specs.List.{range_with_len}
 use Rattle.wf_scopes.specs.Tables.{ancestor_ids}
-use Rattle.wf_scopes.proofs.Rows.{row_more}
+use Rattle.wf_model.proofs.Rows.{row_more}
 use Rattle.wf_scopes.proofs.Lines.{line_read}
 use Rattle.wf_scopes.proofs.lineages.lineages.Goals as goal
 

@@ -1,7 +1,8 @@
 use Rattle.std.proofs.Common.{◌≡◌, ◌<◌, get_or, length, rules, ◌∙◌, ap, refl}
 use Rattle.wf_model.specs.Tree.{scope}
-use Rattle.wf_scopes.specs.Tables.{state_id, scopes_of}
-use Rattle.wf_scopes.proofs.Rows.{row_more}
+use Rattle.wf_model.specs.Ids.{state_id}
+use Rattle.wf_scopes.specs.Tables.{scopes_of}
+use Rattle.wf_model.proofs.Rows.{row_more}
 use Rattle.wf_scopes.proofs.Lines.{source_in, target_in, source_read, target_read}
 use Rattle.wf_scopes.proofs.scope.scopes.Goals as goal
 

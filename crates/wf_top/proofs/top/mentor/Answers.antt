@@ -3,7 +3,7 @@ use Rattle.std.specs.Io.KnownBytes.{Consumes, IsAtEnd}
 use lib.Chars.{codes}
 use Rattle.wf_model.specs.Limits.{max_input}
 use Rattle.wf_model.specs.declared.status.Status.TheVariants as status
-use Rattle.wf_io.specs.Causes.{Rose}
+use Rattle.wf_model.specs.Faults.{Rose}
 use Rattle.wf_refusals.specs.Lines.{refusal}
 use Rattle.wf_top.specs.Answers.{answer, answer_within, command_of}
 use Rattle.wf_top.proofs.Dues.{finished, long_answer, read_answer, answer_due}

@@ -2,8 +2,8 @@ use Rattle.std.proofs.Common.{◌==◌, ap, ◌∙◌}
 use Rattle.std.specs.List.{list_any}
 use Rattle.wf_model.specs.declared.ids.StateId.{StateId}
 use Rattle.wf_model.specs.Tree.{ancestors}
-use Rattle.wf_semantics.proofs.Bools.{any_map}
-use Rattle.wf_scopes.specs.Tables.{state_id}
+use Rattle.wf_model.specs.Ids.{state_id}
+use Rattle.wf_model.proofs.Bools.{any_map}
 use Rattle.wf_scopes.proofs.scopes.Scopes.above.Goals as goal
 
 pub returns : goal.returns

@@ -4,7 +4,7 @@ use Rattle.std.specs.Option.{option_copied}
 use Rattle.wf_semantics.specs.Configuration.{is_in}
 use Rattle.wf_semantics.specs.Entry.{entry_tree}
 use Rattle.wf_scopes.specs.Tables.{Tables, entries_of, entry_row}
-use Rattle.wf_scopes.proofs.Rows.{row_get}
+use Rattle.wf_model.proofs.Rows.{row_get}
 use Rattle.wf_scopes.proofs.scopes.Scopes.enters.Goals as goal
 
 pub returns-in-Some-get : goal.returns-in-Some-get

@@ -2,7 +2,7 @@ use Rattle.std.proofs.Common.{◌≡◌, ap, sym, ◌∙◌, Some, None, length}
 use Rattle.std.specs.List.{slice_get}
 use Rattle.std.specs.Option.{option_copied}
 use Rattle.wf_scopes.specs.Tables.{Tables, lineages_of, ancestor_ids}
-use Rattle.wf_scopes.proofs.Rows.{row_get}
+use Rattle.wf_model.proofs.Rows.{row_get}
 use Rattle.wf_scopes.proofs.scopes.Scopes.lineage.Goals as goal
 
 pub returns-in-Some : goal.returns-in-Some

@@ -3,8 +3,9 @@ use Rattle.std.specs.List.{slice_get}
 use Rattle.std.specs.Option.{option_copied}
 use Rattle.wf_model.specs.declared.ids.StateId.{StateId}
 use Rattle.wf_model.specs.Tree.{scope}
-use Rattle.wf_scopes.specs.Tables.{Tables, scopes_of, state_id}
-use Rattle.wf_scopes.proofs.Rows.{row_get}
+use Rattle.wf_model.specs.Ids.{state_id}
+use Rattle.wf_scopes.specs.Tables.{Tables, scopes_of}
+use Rattle.wf_model.proofs.Rows.{row_get}
 use Rattle.wf_scopes.proofs.scopes.Scopes.scope.Goals as goal
 
 pub returns-in-Some : goal.returns-in-Some

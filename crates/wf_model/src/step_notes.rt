@@ -1,0 +1,10 @@
+//! What a step did, for those who are told of it.
+use crate::{ActId, List, TransId};
+
+/// What a step did, beside moving: the transitions that fired, ascending, and the activities that it started, each with
+/// the number of its item, in order of transition and place.
+#[derive(Debug, Drop)]
+pub struct StepNotes {
+    pub fired: List<TransId>,
+    pub starts: List<(ActId, u32)>,
+}

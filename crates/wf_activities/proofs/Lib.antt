@@ -4,7 +4,6 @@ pub mod Wanted
 pub mod Completed
 pub mod LawsHold
 pub mod Admitting
-pub mod ByItems
 pub mod Rows
 pub mod ChartTables
 pub mod Done
@@ -14,3 +13,4 @@ pub mod OpenCounts
 pub mod Numbering
 pub mod Adding
 pub mod Stepping
+pub mod Rooms

@@ -52,7 +52,7 @@ module _ (chart : Chart) (h : ℕ → History) (are : AreLean chart h) where
 
   -- as far as the entries may come
   abbrev pub Before : ℕ → Type 0
-  Before k = (i : ℕ) → i < k → may_come chart (state_after chart (merged_of chart h) i) (entries_at (merged_of chart h) (suc i)) ≡ true
+  Before k = (i : ℕ) → i < k → may_come chart (state_after chart (merged_of chart h) i).items (entries_at (merged_of chart h) (suc i)) ≡ true
 
   pub shows_upto : (u j : ℕ) → u < n → j ≤ taken (h u) → Before j → local (part_of chart u) (h u) j ≡ shown (part_of chart u) (state_after chart (merged_of chart h) j) (entries_at (merged_of chart h) (suc j))
   shows_upto u j lt le before =

@@ -68,7 +68,7 @@ event_ok false h = absurd (true≢false (sym h))
 module _ (chart : Chart) (c : CentralState) (v : ℕ) (before : List Outer) (closed : (n : ℕ) → is_closed (item_at (c.items v) n) ≡ list_any (completes n) before) where
   -- one outer of unit v
   outer_comes : (pending : List Entry) (pre : List Outer) (o : Outer) → ((n : ℕ) → is_pending pending v n ≡ list_any (completes n) pre) →
-      is_at_unit chart v o ≡ true → is_there (map (λ x. x.act) (c.items v)) o ≡ true → is_first (before ++ pre) o ≡ true → is_ok (may_be_admitted chart c pending v o) ≡ true
+      is_at_unit chart v o ≡ true → is_there (map (λ x. x.act) (c.items v)) o ≡ true → is_first (before ++ pre) o ≡ true → is_ok (may_be_admitted chart c.items pending v o) ≡ true
   unfolding may_be_admitted
   outer_comes pending pre (Happen e) pend at there first = event_ok (is_event_at chart v e.0) at
   outer_comes pending pre (Complete n a os) pend at there first =
@@ -80,13 +80,13 @@ module _ (chart : Chart) (c : CentralState) (v : ℕ) (before : List Outer) (clo
 
   -- the outers of unit v, one after another
   pub block_comes : (pending : List Entry) (pre os : List Outer) → ((n : ℕ) → is_pending pending v n ≡ list_any (completes n) pre) →
-      list_all (is_at_unit chart v) os ≡ true → list_all (is_there (map (λ x. x.act) (c.items v))) os ≡ true → are_first (before ++ pre) os ≡ true → may_come_after chart c pending (map (entry v) os) ≡ true
+      list_all (is_at_unit chart v) os ≡ true → list_all (is_there (map (λ x. x.act) (c.items v))) os ≡ true → are_first (before ++ pre) os ≡ true → may_come_after chart c.items pending (map (entry v) os) ≡ true
   block_comes pending pre [] pend at there first = refl
   block_comes pending pre (o ∷ os) pend at there first =
       let a = and_both (is_at_unit chart v o) (list_all (is_at_unit chart v) os) at in
       let t = and_both (is_there (map (λ x. x.act) (c.items v)) o) (list_all (is_there (map (λ x. x.act) (c.items v))) os) there in
       let f = and_both (is_first (before ++ pre) o) (are_first ((before ++ pre) ++ o ∷ []) os) first in
-      and_true (is_ok (may_be_admitted chart c pending v o)) (may_come_after chart c (pending ++ entry v o ∷ []) (map (entry v) os))
+      and_true (is_ok (may_be_admitted chart c.items pending v o)) (may_come_after chart c.items (pending ++ entry v o ∷ []) (map (entry v) os))
       (outer_comes pending pre o pend a.0 t.0 f.0)
       (block_comes (pending ++ entry v o ∷ []) (pre ++ o ∷ []) os
       (λ n. list_any-append (λ x. (x.unit.0 == v) && completes n x.outer) pending (entry v o ∷ [])
@@ -112,12 +112,12 @@ none_block a v n (o ∷ os) lt = ap₂ (λ (p q : Bool). (p && completes n o) ||
 
 module _ (chart : Chart) (c : CentralState) (f : ℕ → List Outer) where
   -- all units' outers, in unit order
-  pub units_come : (a m : ℕ) (pending : List Entry) → NoneFrom a pending → ((v : ℕ) → v < a + m → Ready chart c v (f v)) → may_come_after chart c pending (flat_map (λ v. map (entry v) (f v)) (range_with_len a m)) ≡ true
+  pub units_come : (a m : ℕ) (pending : List Entry) → NoneFrom a pending → ((v : ℕ) → v < a + m → Ready chart c v (f v)) → may_come_after chart c.items pending (flat_map (λ v. map (entry v) (f v)) (range_with_len a m)) ≡ true
   units_come a zero pending none ready = refl
   units_come a (suc m) pending none ready =
       let r = ready a (omega arith) in
       comes_in_parts chart c pending (map (entry a) (f a)) (flat_map (λ v. map (entry v) (f v)) (range_with_len (a + 1) m))
-      ∙ and_true (may_come_after chart c pending (map (entry a) (f a))) (may_come_after chart c (pending ++ map (entry a) (f a)) (flat_map (λ v. map (entry v) (f v)) (range_with_len (a + 1) m)))
+      ∙ and_true (may_come_after chart c.items pending (map (entry a) (f a))) (may_come_after chart c.items (pending ++ map (entry a) (f a)) (flat_map (λ v. map (entry v) (f v)) (range_with_len (a + 1) m)))
       (block_comes chart c a r.before r.closed pending [] (f a) (λ n. none a n (omega arith)) r.at_unit r.there (ap (λ (l : List Outer). are_first l (f a)) (append-nil r.before) ∙ r.first))
       (units_come (a + 1) m (pending ++ map (entry a) (f a))
       (λ v n le. list_any-append (λ x. (x.unit.0 == v) && completes n x.outer) pending (map (entry a) (f a)) ∙ ap₂ (λ (p q : Bool). p || q) (none v n (omega arith)) (none_block a v n (f a) (omega arith)))

@@ -129,20 +129,20 @@ module _ (chart : Chart) (h : ℕ → History) (are : AreLean chart h) where
     first = first_at (h v) (suc (taken (h v))) j (omega (arith, least_taken_below n h v lt)) (are.follow v lt).once;
   }
 
-  comes_at : (k : ℕ) → k ≤ least_taken n h + 1 → Before chart h are k → may_come chart (state_after chart steps k) (entries_at steps (suc k)) ≡ true
-  comes_at zero le before = ap (may_come chart (state_after chart steps 0)) (merged_first n h)
+  comes_at : (k : ℕ) → k ≤ least_taken n h + 1 → Before chart h are k → may_come chart (state_after chart steps k).items (entries_at steps (suc k)) ≡ true
+  comes_at zero le before = ap (may_come chart (state_after chart steps 0).items) (merged_first n h)
   comes_at (suc j) le before =
-      ap (may_come chart (state_after chart steps (suc j))) (at_merged n h (suc (suc j)) (omega arith))
+      ap (may_come chart (state_after chart steps (suc j)).items) (at_merged n h (suc (suc j)) (omega arith))
       ∙ units_come chart (state_after chart steps (suc j)) (λ v. sealed_by (h v) j) 0 n [] (λ v m l. refl) (λ v l. ready_at v j (omega arith) (omega arith) before)
 
   pub all_come : (k : ℕ) → k ≤ least_taken n h + 2 → Before chart h are k
   all_come zero le i lt = absurd (omega arith)
   all_come (suc k) le i lt = go (lt_or_ge i k) (λ q. all_come k (omega arith) i q) (comes_at k (omega arith) (λ x y. all_come k (omega arith) x y))
     where
-      go : (i < k) ⊎ (k ≤ i) → (i < k → may_come chart (state_after chart steps i) (entries_at steps (suc i)) ≡ true) → may_come chart (state_after chart steps k) (entries_at steps (suc k)) ≡ true → may_come chart (state_after chart steps i) (entries_at steps (suc i)) ≡ true
+      go : (i < k) ⊎ (k ≤ i) → (i < k → may_come chart (state_after chart steps i).items (entries_at steps (suc i)) ≡ true) → may_come chart (state_after chart steps k).items (entries_at steps (suc k)) ≡ true → may_come chart (state_after chart steps i).items (entries_at steps (suc i)) ≡ true
       go c ih here = elim c [
         | inl q ↦ ih q
-        | inr q ↦ let e : k ≡ i = omega arith in subst (λ (x : ℕ). may_come chart (state_after chart steps x) (entries_at steps (suc x)) ≡ true) e here
+        | inr q ↦ let e : k ≡ i = omega arith in subst (λ (x : ℕ). may_come chart (state_after chart steps x).items (entries_at steps (suc x)) ≡ true) e here
       ]
 
   pub come_far : (j : ℕ) → j ≤ least_taken n h + 2 → Before chart h are j

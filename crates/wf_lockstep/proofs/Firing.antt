@@ -111,7 +111,7 @@ module _ (chart : Chart) (u : ℕ) where
       ∙ find_at (trans_at chart u) (λ p. p.id.0) (λ t. ap (λ (i : TransId). i.0) (trans_id_at t)) (concerns chart u) (length chart.transitions) t lt con
 
   module _ (ok : IsAccepted chart) (a b : Snapshot) (alike : Alike chart u a b) where
-    guard_same : (t : ℕ) (trans : Transition) (o : Option Expr) → t < length chart.transitions → concerns chart u t ≡ true → slice_get chart.transitions t ≡ Some trans → trans.guard ≡ o → has_guard a o ≡ has_guard b o
+    guard_same : (t : ℕ) (trans : Transition) (o : Option Expr) → t < length chart.transitions → concerns chart u t ≡ true → slice_get chart.transitions t ≡ Some trans → trans.guard ≡ o → has_guard a.seen o ≡ has_guard b.seen o
     guard_same t trans None lt con is gu = refl
     guard_same t trans (Some g) lt con is gu = ap is_true (value_same a.seen b.seen g (record {
       states = λ s h. alike.states s (read_state s (read_in_guard (reads_state s) t trans g lt con is gu h));
@@ -120,7 +120,7 @@ module _ (chart : Chart) (u : ℕ) where
       dones = λ n h. alike.dones n (read_act n (read_in_guard (reads_act n) t trans g lt con is gu h));
     }))
 
-    event_same : (t : ℕ) (trans : Transition) (o : Option EventId) → t < length chart.transitions → concerns chart u t ≡ true → slice_get chart.transitions t ≡ Some trans → trans.event ≡ o → has_event a o ≡ has_event b o
+    event_same : (t : ℕ) (trans : Transition) (o : Option EventId) → t < length chart.transitions → concerns chart u t ≡ true → slice_get chart.transitions t ≡ Some trans → trans.event ≡ o → has_event a.there o ≡ has_event b.there o
     event_same t trans None lt con is ev = refl
     event_same t trans (Some e) lt con is ev = alike.there e.0 ((chart_of chart ok).known_event t trans e is ev) (known_trigger t trans e lt con is ev)
 

@@ -50,18 +50,18 @@ written_length : (x : ℕ) (r : Result Val Fault) (store : List Val) → length 
 written_length x (Ok val) store = length-set store x val
 written_length x (Err d) store = refl
 
-action_length : (snap : Snapshot) (x : Action) (store : List Val) → length (after_action snap x store) ≡ length store
+action_length : (snap : Snapshot) (x : Action) (store : List Val) → length (after_action snap.seen x store) ≡ length store
 action_length snap (Assign x value) store = written_length x.0 (value_of snap.seen value) store
 action_length snap (Raise e) store = refl
 action_length snap (Start a) store = refl
 
-actions_length : (snap : Snapshot) (xs : List Action) (store : List Val) → length (after_actions snap xs store) ≡ length store
+actions_length : (snap : Snapshot) (xs : List Action) (store : List Val) → length (after_actions snap.seen xs store) ≡ length store
 actions_length snap [] store = refl
-actions_length snap (x ∷ xs) store = actions_length snap xs (after_action snap x store) ∙ action_length snap x store
+actions_length snap (x ∷ xs) store = actions_length snap xs (after_action snap.seen x store) ∙ action_length snap x store
 
-fired_length : (chart : Chart) (snap : Snapshot) (ts : List ℕ) (store : List Val) → length (after_fired chart snap ts store) ≡ length store
+fired_length : (chart : Chart) (snap : Snapshot) (ts : List ℕ) (store : List Val) → length (after_fired chart snap.seen ts store) ≡ length store
 fired_length chart snap [] store = refl
-fired_length chart snap (t ∷ ts) store = fired_length chart snap ts (after_actions snap (actions_of chart t) store) ∙ actions_length snap (actions_of chart t) store
+fired_length chart snap (t ∷ ts) store = fired_length chart snap ts (after_actions snap.seen (actions_of chart t) store) ∙ actions_length snap (actions_of chart t) store
 
 next_length : (chart : Chart) (c : CentralState) (es : List Entry) → length (next_state chart c es).store ≡ length c.store
 unfolding next_state
@@ -77,7 +77,7 @@ run_stored chart steps = steps_length chart (first_state chart) steps ∙ length
 
 -- STEP BY STEP
 
-come_along : (chart : Chart) (c : CentralState) (steps : List (List Entry)) (j : ℕ) → j < length steps → IsRunFrom chart c steps → may_come chart (after_steps chart c (take j steps)) (get_or steps j []) ≡ true
+come_along : (chart : Chart) (c : CentralState) (steps : List (List Entry)) (j : ℕ) → j < length steps → IsRunFrom chart c steps → may_come chart (after_steps chart c (take j steps)).items (get_or steps j []) ≡ true
 come_along chart c [] j lt run = absurd (omega arith)
 come_along chart c (es ∷ steps) zero lt run = run.0
 come_along chart c (es ∷ steps) (suc j) lt run = come_along chart (next_state chart c es) steps j (omega arith) run.1
@@ -87,10 +87,10 @@ past_end [] j le = refl
 past_end (es ∷ steps) zero le = absurd (omega arith)
 past_end (es ∷ steps) (suc j) le = past_end steps j (omega arith)
 
-pub run_comes : (chart : Chart) (steps : List (List Entry)) (j : ℕ) → IsRun chart steps → may_come chart (state_after chart steps j) (entries_at steps (suc j)) ≡ true
+pub run_comes : (chart : Chart) (steps : List (List Entry)) (j : ℕ) → IsRun chart steps → may_come chart (state_after chart steps j).items (entries_at steps (suc j)) ≡ true
 run_comes chart steps j run = elim (lt_or_ge j (length steps)) [
   | inl lt ↦ come_along chart (first_state chart) steps j lt run
-  | inr ge ↦ ap (may_come chart (state_after chart steps j)) (past_end steps j ge)
+  | inr ge ↦ ap (may_come chart (state_after chart steps j).items) (past_end steps j ge)
 ]
 
 pub state_next : (chart : Chart) (steps : List (List Entry)) (j : ℕ) → j < length steps → state_after chart steps (suc j) ≡ next_state chart (state_after chart steps j) (entries_at steps (suc j))
@@ -143,7 +143,7 @@ module _ (chart : Chart) (u : ℕ) where
 
 -- THE RUN, as far as the entries may come
 
-module _ (chart : Chart) (steps : List (List Entry)) (ok : IsAccepted chart) (last : ℕ) (comes : (i : ℕ) → i < last → may_come chart (state_after chart steps i) (entries_at steps (suc i)) ≡ true)
+module _ (chart : Chart) (steps : List (List Entry)) (ok : IsAccepted chart) (last : ℕ) (comes : (i : ℕ) → i < last → may_come chart (state_after chart steps i).items (entries_at steps (suc i)) ≡ true)
     (none : entries_at steps 1 ≡ []) (ordered : AreInOrder chart steps) where
   conf : (j : ℕ) → IsConfiguration chart (state_after chart steps j).configuration
   conf j = run_configuration chart (chart_of chart ok) (take j steps)
@@ -170,6 +170,6 @@ lockstep chart steps j u ok run none ordered le =
     (view_shown chart steps ok (suc j) (λ i l. run_comes chart steps i run) none ordered j le (omega arith) u, update_is_share chart steps ok (suc j) (λ i l. run_comes chart steps i run) none ordered j u le (omega arith))
 
 -- entries that may come step by step are a run
-pub run_of_comes : (chart : Chart) (c : CentralState) (steps : List (List Entry)) → ((j : ℕ) → j < length steps → may_come chart (after_steps chart c (take j steps)) (get_or steps j []) ≡ true) → IsRunFrom chart c steps
+pub run_of_comes : (chart : Chart) (c : CentralState) (steps : List (List Entry)) → ((j : ℕ) → j < length steps → may_come chart (after_steps chart c (take j steps)).items (get_or steps j []) ≡ true) → IsRunFrom chart c steps
 run_of_comes chart c [] h = tt
 run_of_comes chart c (es ∷ steps) h = (h 0 (omega arith), run_of_comes chart (next_state chart c es) steps (λ j lt. h (suc j) (omega arith)))

@@ -68,7 +68,7 @@ starts_total a f [] = refl
 starts_total a f (t ∷ ts) = starts_both a (f t) (flat_map f ts) ∙ ap (λ (n : ℕ). start_count a (f t) + n) (starts_total a f ts)
 
 module _ (chart : Chart) (ok : IsAccepted chart) (c : CentralState) (es : List Entry) (conf : IsConfiguration chart c.configuration)
-    (stored : length c.store ≡ length chart.vars) (come : may_come chart c es ≡ true) (k : ℕ) (next : List Entry) where
+    (stored : length c.store ≡ length chart.vars) (come : may_come chart c.items es ≡ true) (k : ℕ) (next : List Entry) where
   abbrev us : List ℕ
   us = range_with_len 0 (length chart.units)
 
@@ -109,32 +109,32 @@ module _ (chart : Chart) (ok : IsAccepted chart) (c : CentralState) (es : List E
 
   -- THE EVENTS
 
-  raised_has : (e : ℕ) (ts : List ℕ) → e < length chart.events → list_any (λ r. r.0 == e) (raised_by chart snap ts) ≡ list_any (raises chart snap e) ts
+  raised_has : (e : ℕ) (ts : List ℕ) → e < length chart.events → list_any (λ r. r.0 == e) (raised_by chart snap.seen ts) ≡ list_any (raises chart snap.seen e) ts
   raised_has e ts lt =
-      any_map (λ (i : EventId). i.0 == e) (λ n. record { 0 = n }) (filter (λ n. list_any (raises chart snap n) ts) (range_with_len 0 (length chart.events)))
-      ∙ among_all (λ n. list_any (raises chart snap n) ts) (length chart.events) e lt
+      any_map (λ (i : EventId). i.0 == e) (λ n. record { 0 = n }) (filter (λ n. list_any (raises chart snap.seen n) ts) (range_with_len 0 (length chart.events)))
+      ∙ among_all (λ n. list_any (raises chart snap.seen n) ts) (length chart.events) e lt
 
-  share_raised : (v e : ℕ) → e < length chart.events → list_any (λ r. r.0 == e) (share v).raised ≡ list_any (raises chart snap e) (filter (λ t. owner chart ok t == v) fired)
+  share_raised : (v e : ℕ) → e < length chart.events → list_any (λ r. r.0 == e) (share v).raised ≡ list_any (raises chart snap.seen e) (filter (λ t. owner chart ok t == v) fired)
   unfolding share_from
-  share_raised v e lt = raised_has e (fired_of_unit chart c es v) lt ∙ ap (list_any (raises chart snap e)) (own_fired_by v)
+  share_raised v e lt = raised_has e (fired_of_unit chart c es v) lt ∙ ap (list_any (raises chart snap.seen e)) (own_fired_by v)
 
   raised : (e : ℕ) → e < length chart.events → is_raised (map share us) e ≡ list_any (λ r. r.0 == e) after.raised
   unfolding next_state
   raised e lt =
       any_map (λ (up : Update). list_any (λ r. r.0 == e) up.raised) share us
-      ∙ any_agree (λ v. list_any (λ r. r.0 == e) (share v).raised) (λ v. list_any (raises chart snap e) (filter (λ t. owner chart ok t == v) fired)) us (λ v m. share_raised v e lt)
-      ∙ any_cut (raises chart snap e) (owner chart ok) (length chart.units) fired below
+      ∙ any_agree (λ v. list_any (λ r. r.0 == e) (share v).raised) (λ v. list_any (raises chart snap.seen e) (filter (λ t. owner chart ok t == v) fired)) us (λ v m. share_raised v e lt)
+      ∙ any_cut (raises chart snap.seen e) (owner chart ok) (length chart.units) fired below
       ∙ sym (raised_has e fired lt)
 
   -- THE VARIABLES
 
-  writes_are : writes_in (map share us) ≡ flat_map (λ v. merged (writes_of chart snap (filter (λ t. owner chart ok t == v) fired))) us
+  writes_are : writes_in (map share us) ≡ flat_map (λ v. merged (writes_of chart snap.seen (filter (λ t. owner chart ok t == v) fired))) us
   unfolding share_from
   writes_are =
       flat_map-map (λ (up : Update). up.writes) share us
-      ∙ flat_agree (λ v. (share v).writes) (λ v. merged (writes_of chart snap (filter (λ t. owner chart ok t == v) fired))) us (λ v m. ap (λ (ts : List ℕ). merged (writes_of chart snap ts)) (own_fired_by v))
+      ∙ flat_agree (λ v. (share v).writes) (λ v. merged (writes_of chart snap.seen (filter (λ t. owner chart ok t == v) fired))) us (λ v m. ap (λ (ts : List ℕ). merged (writes_of chart snap.seen ts)) (own_fired_by v))
 
-  store_next : (x : ℕ) (d : Val) → get_or after.store x d ≡ get_or (after_fired chart snap fired (after_entries es c.store)) x d
+  store_next : (x : ℕ) (d : Val) → get_or after.store x d ≡ get_or (after_fired chart snap.seen fired (after_entries es c.store)) x d
   unfolding next_state
   store_next x d = refl
 

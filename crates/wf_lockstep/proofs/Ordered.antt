@@ -82,7 +82,7 @@ own_ascends chart u k view outers =
     let snap : Snapshot = sees (part_of chart u) view in
     record {
       flips = flips_ascend chart u snap;
-      writes = merged_ascends (flat_map (λ trans. Rattle.std.specs.Prelude.filter_map (Rattle.wf_actions.specs.Store.write_of snap trans.id.0) trans.actions) (own_fired (part_of chart u) snap));
+      writes = merged_ascends (flat_map (λ trans. Rattle.std.specs.Prelude.filter_map (Rattle.wf_actions.specs.Store.write_of snap.seen trans.id.0) trans.actions) (own_fired (part_of chart u) snap));
       raised = raised_ascend chart u snap Rattle.wf_model.specs.Limits.max_events;
       fired = fired_ascend chart u snap;
     }
@@ -170,15 +170,15 @@ module _ (chart : Chart) (ok : IsAccepted chart) where
   event_test true h = refl
   event_test false h = absurd (true≢false (sym h))
 
-  outer_below : (c : CentralState) (pending : List Entry) (u : ℕ) (o : Outer) → is_ok (may_be_admitted chart c pending u o) ≡ true → nat_lt u (length chart.units) ≡ true
+  outer_below : (c : CentralState) (pending : List Entry) (u : ℕ) (o : Outer) → is_ok (may_be_admitted chart c.items pending u o) ≡ true → nat_lt u (length chart.units) ≡ true
   unfolding may_be_admitted
   outer_below c pending u (Happen e) h = event_unit u e.0 (event_test (is_event_at chart u e.0) h)
   outer_below c pending u (Complete n a os) h = act_unit_below u a.0 (first_test (is_act_at chart u a.0) _ h)
 
-  come_below : (c : CentralState) (pending es : List Entry) → may_come_after chart c pending es ≡ true → list_all (below (length chart.units)) es ≡ true
+  come_below : (c : CentralState) (pending es : List Entry) → may_come_after chart c.items pending es ≡ true → list_all (below (length chart.units)) es ≡ true
   come_below c pending [] h = refl
   come_below c pending (x ∷ xs) h =
-      let both = and_both (is_ok (may_be_admitted chart c pending x.unit.0 x.outer)) (may_come_after chart c (pending ++ x ∷ []) xs) h in
+      let both = and_both (is_ok (may_be_admitted chart c.items pending x.unit.0 x.outer)) (may_come_after chart c.items (pending ++ x ∷ []) xs) h in
       ap₂ (λ (a b : Bool). a && b) (outer_below c pending x.unit.0 x.outer both.0) (come_below c (pending ++ x ∷ []) xs both.1)
 
   steps_in_order : (c : CentralState) (steps : List (List Entry)) → IsRunFrom chart c steps → list_all (rises 0) steps ≡ true → (i : ℕ) → by_units (length chart.units) (get_or steps i []) ≡ get_or steps i []

@@ -169,17 +169,17 @@ first_test true of done fit h = refl
 first_test false of done fit h = absurd (true≢false (sym h))
 
 module _ (chart : Chart) (c : CentralState) where
-  at_unit : (pending : List Entry) (u n : ℕ) (a : ActId) (os : List Output) → is_ok (may_be_admitted chart c pending u (Complete n a os)) ≡ true → is_act_at chart u a.0 ≡ true
+  at_unit : (pending : List Entry) (u n : ℕ) (a : ActId) (os : List Output) → is_ok (may_be_admitted chart c.items pending u (Complete n a os)) ≡ true → is_act_at chart u a.0 ≡ true
   unfolding may_be_admitted
   at_unit pending u n a os h = first_test (is_act_at chart u a.0) (is_of a.0 (item_at (c.items u) n)) (is_closed (item_at (c.items u) n) || is_pending pending u n) (are_outputs_of chart a.0 os) h
 
-  done_from : (pending es : List Entry) (a v : ℕ) → act_unit chart a ≡ Some v → may_come_after chart c pending es ≡ true → done_count a (completions_in es) ≡ done_count a (completions_at v es)
+  done_from : (pending es : List Entry) (a v : ℕ) → act_unit chart a ≡ Some v → may_come_after chart c.items pending es ≡ true → done_count a (completions_in es) ≡ done_count a (completions_at v es)
   done_from pending [] a v e h = refl
   done_from pending (x ∷ es) a v e h =
-      let both = and_both (is_ok (may_be_admitted chart c pending x.unit.0 x.outer)) (may_come_after chart c (pending ++ x ∷ []) es) h in
+      let both = and_both (is_ok (may_be_admitted chart c.items pending x.unit.0 x.outer)) (may_come_after chart c.items (pending ++ x ∷ []) es) h in
       go (x.unit.0 == v) refl x.outer both.0 (done_from (pending ++ x ∷ []) es a v e both.1)
     where
-      go : (b : Bool) → (x.unit.0 == v) ≡ b → (o : Outer) → is_ok (may_be_admitted chart c pending x.unit.0 o) ≡ true → done_count a (completions_in es) ≡ done_count a (completions_at v es) →
+      go : (b : Bool) → (x.unit.0 == v) ≡ b → (o : Outer) → is_ok (may_be_admitted chart c.items pending x.unit.0 o) ≡ true → done_count a (completions_in es) ≡ done_count a (completions_at v es) →
           done_count a (completions_of o ++ completions_in es) ≡ done_count a (flat_map (λ y. completions_of y.outer) (cond b (record x { outer = o } ∷ filter (λ y. y.unit.0 == v) es) (filter (λ y. y.unit.0 == v) es)))
       go true q (Happen n) ok ih = ih
       go false q (Happen n) ok ih = ih
@@ -190,5 +190,5 @@ module _ (chart : Chart) (c : CentralState) where
           ap (λ (d : Bool). one d + done_count a (completions_in es)) (not_true (b.0 == a) (λ r. other (eqb-true b.0 a r)))
           ∙ (let plus : 0 + done_count a (completions_in es) ≡ done_count a (completions_in es) = omega arith in plus) ∙ ih
 
-  pub done_at_unit : (es : List Entry) (a v : ℕ) → act_unit chart a ≡ Some v → may_come chart c es ≡ true → done_count a (completions_in es) ≡ done_count a (completions_at v es)
+  pub done_at_unit : (es : List Entry) (a v : ℕ) → act_unit chart a ≡ Some v → may_come chart c.items es ≡ true → done_count a (completions_in es) ≡ done_count a (completions_at v es)
   done_at_unit es a v e h = done_from [] es a v e h

@@ -79,18 +79,18 @@ module _ (chart : Chart) (ok : IsAccepted chart) where
       go None h = refl
       go (Some trans) h = let known : is_known_transition chart trans ≡ true = h trans refl in grind arith
 
-  raise_known : (snap : Snapshot) (e : ℕ) (x : Action) → is_known_action chart x ≡ true → action_raises snap e x ≡ true → e < length chart.events
+  raise_known : (snap : Snapshot) (e : ℕ) (x : Action) → is_known_action chart x ≡ true → action_raises snap.seen e x ≡ true → e < length chart.events
   raise_known snap e (Assign x value) k h = let zero_is : e ≡ 0 = eqb-true e 0 (and_both (e == 0) (Rattle.wf_semantics.specs.Effects.is_fault (Rattle.wf_model.specs.Values.value_of snap.seen value)) h).0 in omega (arith, zero_is, (chart_of chart ok).some_event)
   raise_known snap e (Raise f) k h = omega (arith, eqb-true f.0 e h, ltb-true f.0 (length chart.events) k)
   raise_known snap e (Start a) k h = absurd (true≢false (sym h))
 
-  raised_known : (snap : Snapshot) (e : ℕ) (xs : List Action) → list_all (is_known_action chart) xs ≡ true → length chart.events ≤ e → list_any (action_raises snap e) xs ≡ false
+  raised_known : (snap : Snapshot) (e : ℕ) (xs : List Action) → list_all (is_known_action chart) xs ≡ true → length chart.events ≤ e → list_any (action_raises snap.seen e) xs ≡ false
   raised_known snap e [] k le = refl
   raised_known snap e (x ∷ xs) k le =
       let both = and_both (is_known_action chart x) (list_all (is_known_action chart) xs) k in
-      ap₂ (λ (a b : Bool). a || b) (not_true (action_raises snap e x) (λ h. omega (arith, raise_known snap e x both.0 h, le))) (raised_known snap e xs both.1 le)
+      ap₂ (λ (a b : Bool). a || b) (not_true (action_raises snap.seen e x) (λ h. omega (arith, raise_known snap e x both.0 h, le))) (raised_known snap e xs both.1 le)
 
-  pub none_raised : (snap : Snapshot) (e : ℕ) (ts : List ℕ) → length chart.events ≤ e → list_any (raises chart snap e) ts ≡ false
+  pub none_raised : (snap : Snapshot) (e : ℕ) (ts : List ℕ) → length chart.events ≤ e → list_any (raises chart snap.seen e) ts ≡ false
   none_raised snap e [] le = refl
   none_raised snap e (t ∷ ts) le = ap₂ (λ (a b : Bool). a || b) (raised_known snap e (actions_of chart t) (actions_known t) le) (none_raised snap e ts le)
 
@@ -101,7 +101,7 @@ unfolding part_of
 unit_of chart u = refl
 
 module _ (chart : Chart) (ok : IsAccepted chart) (u : ℕ) (c : CentralState) (es : List Entry) (conf : IsConfiguration chart c.configuration)
-    (stored : length c.store ≡ length chart.vars) (come : may_come chart c es ≡ true) where
+    (stored : length c.store ≡ length chart.vars) (come : may_come chart c.items es ≡ true) where
   abbrev a : Snapshot
   a = sees (part_of chart u) (shown (part_of chart u) c es)
 
@@ -138,25 +138,25 @@ module _ (chart : Chart) (ok : IsAccepted chart) (u : ℕ) (c : CentralState) (e
       ∙ flat_agree (λ t. starts_from (trans_at chart u t).id.0 0 (trans_at chart u t).actions) (λ t. starts_from t 0 (actions_of chart t)) mine
       (λ t m. ap₂ (λ (i : TransId) (l : List Action). starts_from i.0 0 l) (trans_id_at chart u t) (own_actions chart u t (mine_own t m).1))
 
-  same_writes : merged (flat_map (λ p. filter_map (write_of a p.id.0) p.actions) (own_fired (part_of chart u) a)) ≡ merged (writes_of chart b mine)
+  same_writes : merged (flat_map (λ p. filter_map (write_of a.seen p.id.0) p.actions) (own_fired (part_of chart u) a)) ≡ merged (writes_of chart b.seen mine)
   same_writes =
       ap merged
-      (ap (flat_map (λ (p : PartTransition). filter_map (write_of a p.id.0) p.actions)) mine_is
-      ∙ flat_map-map (λ (p : PartTransition). filter_map (write_of a p.id.0) p.actions) (trans_at chart u) mine
-      ∙ flat_agree (λ t. filter_map (write_of a (trans_at chart u t).id.0) (trans_at chart u t).actions) (λ t. filter_map (write_of b t) (actions_of chart t)) mine
+      (ap (flat_map (λ (p : PartTransition). filter_map (write_of a.seen p.id.0) p.actions)) mine_is
+      ∙ flat_map-map (λ (p : PartTransition). filter_map (write_of a.seen p.id.0) p.actions) (trans_at chart u) mine
+      ∙ flat_agree (λ t. filter_map (write_of a.seen (trans_at chart u t).id.0) (trans_at chart u t).actions) (λ t. filter_map (write_of b.seen t) (actions_of chart t)) mine
       (λ t m. let o = mine_own t m in
-      ap₂ (λ (i : TransId) (l : List Action). filter_map (write_of a i.0) l) (trans_id_at chart u t) (own_actions chart u t o.1)
+      ap₂ (λ (i : TransId) (l : List Action). filter_map (write_of a.seen i.0) l) (trans_id_at chart u t) (own_actions chart u t o.1)
       ∙ writes_same a b t (actions_of chart t) (own_shown chart u ok a b alike t o.0 o.1)))
 
-  same_raised : map event_id (filter (is_raised_by a (own_fired (part_of chart u) a)) (range_with_len 0 max_events)) ≡ raised_by chart b mine
+  same_raised : map event_id (filter (is_raised_by a (own_fired (part_of chart u) a)) (range_with_len 0 max_events)) ≡ raised_by chart b.seen mine
   same_raised =
       ap (map event_id)
-      (filter_agree (is_raised_by a (own_fired (part_of chart u) a)) (λ e. list_any (raises chart b e) mine) (range_with_len 0 max_events) (λ e r.
-      ap (list_any (λ (p : PartTransition). list_any (action_raises a e) p.actions)) mine_is
-      ∙ any_map (λ (p : PartTransition). list_any (action_raises a e) p.actions) (trans_at chart u) mine
-      ∙ any_agree (λ t. list_any (action_raises a e) (trans_at chart u t).actions) (raises chart b e) mine (λ t m.
-      let o = mine_own t m in ap (list_any (action_raises a e)) (own_actions chart u t o.1) ∙ raises_same a b e (actions_of chart t) (own_shown chart u ok a b alike t o.0 o.1)))
-      ∙ filter_longer (λ e. list_any (raises chart b e) mine) (length chart.events) max_events (few_events chart ok) (λ e le. none_raised chart ok b e mine le))
+      (filter_agree (is_raised_by a (own_fired (part_of chart u) a)) (λ e. list_any (raises chart b.seen e) mine) (range_with_len 0 max_events) (λ e r.
+      ap (list_any (λ (p : PartTransition). list_any (action_raises a.seen e) p.actions)) mine_is
+      ∙ any_map (λ (p : PartTransition). list_any (action_raises a.seen e) p.actions) (trans_at chart u) mine
+      ∙ any_agree (λ t. list_any (action_raises a.seen e) (trans_at chart u t).actions) (raises chart b.seen e) mine (λ t m.
+      let o = mine_own t m in ap (list_any (action_raises a.seen e)) (own_actions chart u t o.1) ∙ raises_same a b e (actions_of chart t) (own_shown chart u ok a b alike t o.0 o.1)))
+      ∙ filter_longer (λ e. list_any (raises chart b.seen e) mine) (length chart.events) max_events (few_events chart ok) (λ e le. none_raised chart ok b e mine le))
 
   -- a transition with a state of u below its scope
   concerned : (t z : ℕ) → is_state_of chart u z ≡ true → Mem z (all_states chart) → is_above chart (scope chart t) z ≡ true → concerns chart u t ≡ true
@@ -166,13 +166,13 @@ module _ (chart : Chart) (ok : IsAccepted chart) (u : ℕ) (c : CentralState) (e
   fires_flat : (t : ℕ) → t < length chart.transitions → concerns chart u t ≡ true → fires_in (part_of chart u) a t ≡ fires_by (flat_of chart) (is_enabled chart b) t
   fires_flat t lt con = fires_known chart u ok a b alike t lt con ∙ sym (fires_same chart (is_enabled chart b) t lt)
 
-  active_same : (z : ℕ) → is_state_of chart u z ≡ true → is_active a z ≡ is_in z c.configuration
+  active_same : (z : ℕ) → is_state_of chart u z ≡ true → is_active a.seen z ≡ is_in z c.configuration
   active_same z s = alike.states z (or_left (is_state_of chart u z) (watches_state chart u z) s) ∙ ap (λ (o : Option Bool). unwrap_or o false) (snapshot_shows chart c es z)
 
-  bit_same : (z : ℕ) → is_state_of chart u z ≡ true → Mem z (all_states chart) → is_in_after (fires_in (part_of chart u) a) (component_of chart z) (is_active a z) ≡ is_in z (next_state chart c es).configuration
+  bit_same : (z : ℕ) → is_state_of chart u z ≡ true → Mem z (all_states chart) → is_in_after (fires_in (part_of chart u) a) (component_of chart z) (is_active a.seen z) ≡ is_in z (next_state chart c es).configuration
   unfolding next_state
   bit_same z s m =
-      ap₂ (λ (i o : Bool). i || (is_active a z && not o))
+      ap₂ (λ (i o : Bool). i || (is_active a.seen z && not o))
       (any_map (λ (i : TransId). fires_in (part_of chart u) a i.0) trans_id (filter (λ t. enters chart t z) (all_transitions chart))
       ∙ any_agree (fires_in (part_of chart u) a) (fires_by (flat_of chart) (is_enabled chart b)) (filter (λ t. enters chart t z) (all_transitions chart)) (λ t k.
       let f = filter_mem (λ t. enters chart t z) (all_transitions chart) t k in

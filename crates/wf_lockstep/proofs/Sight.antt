@@ -159,22 +159,22 @@ module _ (chart : Chart) (u : ℕ) where
         ∙ outputs_cut (known_to (part_of chart u)) x (part_vars chart u x ∙ ap₂ (λ (a b : Bool). a && b) (within x (length chart.vars) lt) kn) es (get_or c.store x (var_at x).first)
         ∙ sym (entries_read es c.store x (var_at x).first (omega (arith, lt, stored)))
 
-    done_now_at : (a : ℕ) → a < length chart.acts → knows_act chart u a ≡ true → may_come chart c es ≡ true →
+    done_now_at : (a : ℕ) → a < length chart.acts → knows_act chart u a ≡ true → may_come chart c.items es ≡ true →
         done_count a (completions_in (shown (part_of chart u) c es).next) ≡ done_count a (completions_at (act_at a).unit.0 es)
     done_now_at a lt kn come =
         ap (λ (l : List Entry). done_count a (completions_in l)) next_of_view
         ∙ done_cut (known_to (part_of chart u)) a (part_acts chart u a ∙ ap₂ (λ (a b : Bool). a && b) (within a (length chart.acts) lt) kn) es
         ∙ done_at_unit chart c es a (act_at a).unit.0 (act_unit_at a lt) come
 
-    pub count_now_at : (a : ℕ) → a < length chart.acts → knows_act chart u a ≡ true → may_come chart c es ≡ true →
+    pub count_now_at : (a : ℕ) → a < length chart.acts → knows_act chart u a ≡ true → may_come chart c.items es ≡ true →
         count_now (shown (part_of chart u) c es) (count_at a) ≡ open_count a (close_all (completions_at (act_at a).unit.0 es) (c.items (act_at a).unit.0))
     count_now_at a lt kn come =
         let w : ℕ = (act_at a).unit.0 in
-        let all : open_count a (close_all (completions_at w es) (c.items w)) + done_count a (completions_at w es) ≡ open_count a (c.items w) = turn_counts a (completions_at w es) (c.items w) (come_in_turn chart c es come w) in
+        let all : open_count a (close_all (completions_at w es) (c.items w)) + done_count a (completions_at w es) ≡ open_count a (c.items w) = turn_counts a (completions_at w es) (c.items w) (come_in_turn chart c.items es come w) in
         ap (λ (n : ℕ). open_count a (c.items w) - n) (done_now_at a lt kn come)
         ∙ (let less : open_count a (c.items w) - done_count a (completions_at w es) ≡ open_count a (close_all (completions_at w es) (c.items w)) = omega (arith, all) in less)
 
-    module _ (is : IsChart chart) (conf : IsConfiguration chart c.configuration) (stored : length c.store ≡ length chart.vars) (come : may_come chart c es ≡ true) where
+    module _ (is : IsChart chart) (conf : IsConfiguration chart c.configuration) (stored : length c.store ≡ length chart.vars) (come : may_come chart c.items es ≡ true) where
       part : PartData
       part = part_of chart u
 
@@ -208,7 +208,7 @@ module _ (chart : Chart) (u : ℕ) where
       no_unit : (a : ℕ) → length chart.acts ≤ a → act_unit chart a ≡ None
       no_unit a ge = ap (option_map (λ act. act.unit.0)) (slice_get_past chart.acts a ge)
 
-      see_count : (a : ℕ) → knows_act chart u a ≡ true → unwrap_or (option_map (count_now (shown (part_of chart u) c es)) (find (λ d. d.0.0 == a) (shown (part_of chart u) c es).unclosed)) 0 ≡ open_now chart c es a
+      see_count : (a : ℕ) → knows_act chart u a ≡ true → unwrap_or (option_map (count_now (shown (part_of chart u) c es)) (find (λ d. d.0.0 == a) (shown (part_of chart u) c es).unclosed)) 0 ≡ open_now chart c.items es a
       see_count a kn = elim (lt_or_ge a (length chart.acts)) [
         | inl lt ↦
             ap (λ (l : List (ActId × ℕ)). unwrap_or (option_map (count_now (shown (part_of chart u) c es)) (find (λ d. d.0.0 == a) l)) 0) acts_of_view
@@ -234,7 +234,7 @@ module _ (chart : Chart) (u : ℕ) where
             ∙ sym (ap (λ (o : Option ℕ). option_map_or (λ w. nat_lt 0 (done_count a (completions_at w es))) o false) (no_unit a ge))
       ]
 
-      see_there : (e : ℕ) → e < length chart.events → knows_event chart u e ≡ true → (list_any (λ r. r.0 == e) (shown (part_of chart u) c es).raised || list_any (λ x. is_happening e x.outer) (shown (part_of chart u) c es).next) ≡ is_there c es e
+      see_there : (e : ℕ) → e < length chart.events → knows_event chart u e ≡ true → (list_any (λ r. r.0 == e) (shown (part_of chart u) c es).raised || list_any (λ x. is_happening e x.outer) (shown (part_of chart u) c es).next) ≡ is_there c.raised es e
       see_there e lt kn =
           let k : (known_to (part_of chart u)).events e ≡ true = part_events chart u e ∙ ap₂ (λ (a b : Bool). a && b) (within e (length chart.events) lt) kn in
           ap₂ (λ (a b : Bool). a || b) (raised_known e k)

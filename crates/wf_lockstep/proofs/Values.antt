@@ -76,24 +76,24 @@ module _ (a b : Snapshot) where
     dones = λ s k. h.dones s (or_right (action_reads (reads_act s) x) (list_any (action_reads (reads_act s)) rest) k);
   }
 
-  write_same : (t : ℕ) (x : Action) → ShowAlike a.seen b.seen (λ s. action_reads (reads_state s) x) (λ y. action_reads (reads_var y) x) (λ n. action_reads (reads_act n) x) → write_of a t x ≡ write_of b t x
+  write_same : (t : ℕ) (x : Action) → ShowAlike a.seen b.seen (λ s. action_reads (reads_state s) x) (λ y. action_reads (reads_var y) x) (λ n. action_reads (reads_act n) x) → write_of a.seen t x ≡ write_of b.seen t x
   write_same t (Assign x value) h =
       ap (λ (r : Outcome). option_map (λ val. record { var = x; trans = record { 0 = t }; val = val }) (result_ok r))
       (value_same a.seen b.seen value (record { states = h.states; vars = h.vars; counts = h.counts; dones = h.dones }))
   write_same t (Raise e) h = refl
   write_same t (Start n) h = refl
 
-  raise_same : (n : ℕ) (x : Action) → ShowAlike a.seen b.seen (λ s. action_reads (reads_state s) x) (λ y. action_reads (reads_var y) x) (λ n. action_reads (reads_act n) x) → action_raises a n x ≡ action_raises b n x
+  raise_same : (n : ℕ) (x : Action) → ShowAlike a.seen b.seen (λ s. action_reads (reads_state s) x) (λ y. action_reads (reads_var y) x) (λ n. action_reads (reads_act n) x) → action_raises a.seen n x ≡ action_raises b.seen n x
   raise_same n (Assign x value) h =
       ap (λ (r : Outcome). (n == 0) && is_fault r)
       (value_same a.seen b.seen value (record { states = h.states; vars = h.vars; counts = h.counts; dones = h.dones }))
   raise_same n (Raise e) h = refl
   raise_same n (Start m) h = refl
 
-  pub writes_same : (t : ℕ) (actions : List Action) → ShowActions a b actions → filter_map (write_of a t) actions ≡ filter_map (write_of b t) actions
+  pub writes_same : (t : ℕ) (actions : List Action) → ShowActions a b actions → filter_map (write_of a.seen t) actions ≡ filter_map (write_of b.seen t) actions
   writes_same t [] h = refl
   writes_same t (x ∷ rest) h = ap₂ (λ (o : Option Write) (ws : List Write). cons_option o ws) (write_same t x (first_shown x rest h)) (writes_same t rest (rest_shown x rest h))
 
-  pub raises_same : (n : ℕ) (actions : List Action) → ShowActions a b actions → list_any (action_raises a n) actions ≡ list_any (action_raises b n) actions
+  pub raises_same : (n : ℕ) (actions : List Action) → ShowActions a b actions → list_any (action_raises a.seen n) actions ≡ list_any (action_raises b.seen n) actions
   raises_same n [] h = refl
   raises_same n (x ∷ rest) h = ap₂ (λ (p q : Bool). p || q) (raise_same n x (first_shown x rest h)) (raises_same n rest (rest_shown x rest h))

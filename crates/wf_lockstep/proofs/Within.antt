@@ -101,15 +101,15 @@ merged_pass p ws all = go (range_with_len 0 (past_variables ws))
 -- WHAT ACTIONS MAY DO
 
 module _ (snap : Snapshot) (t : ℕ) where
-  writes_pass : (may : ℕ → Bool) (xs : List Action) → ((x : ℕ) → list_any (action_assigns x) xs ≡ true → may x ≡ true) → list_all (λ (w : Write). may w.var.0) (filter_map (write_of snap t) xs) ≡ true
+  writes_pass : (may : ℕ → Bool) (xs : List Action) → ((x : ℕ) → list_any (action_assigns x) xs ≡ true → may x ≡ true) → list_all (λ (w : Write). may w.var.0) (filter_map (write_of snap.seen t) xs) ≡ true
   writes_pass may [] h = refl
   writes_pass may (Raise e ∷ xs) h = writes_pass may xs h
   writes_pass may (Start a ∷ xs) h = writes_pass may xs h
   writes_pass may (Assign y value ∷ xs) h = go (value_of snap.seen value) (writes_pass may xs (λ x k. h x (or_right (y.0 == x) (list_any (action_assigns x) xs) k)))
     where
-      go : (r : Result Val Fault) → list_all (λ (w : Write). may w.var.0) (filter_map (write_of snap t) xs) ≡ true →
-          list_all (λ (w : Write). may w.var.0) (cons_option (option_map (λ val. record { var = y; trans = record { 0 = t }; val = val }) (result_ok r)) (filter_map (write_of snap t) xs)) ≡ true
-      go (Ok val) ih = and_true (may y.0) (list_all (λ (w : Write). may w.var.0) (filter_map (write_of snap t) xs)) (h y.0 (or_left (y.0 == y.0) (list_any (action_assigns y.0) xs) (eq-eqb y.0 y.0 refl))) ih
+      go : (r : Result Val Fault) → list_all (λ (w : Write). may w.var.0) (filter_map (write_of snap.seen t) xs) ≡ true →
+          list_all (λ (w : Write). may w.var.0) (cons_option (option_map (λ val. record { var = y; trans = record { 0 = t }; val = val }) (result_ok r)) (filter_map (write_of snap.seen t) xs)) ≡ true
+      go (Ok val) ih = and_true (may y.0) (list_all (λ (w : Write). may w.var.0) (filter_map (write_of snap.seen t) xs)) (h y.0 (or_left (y.0 == y.0) (list_any (action_assigns y.0) xs) (eq-eqb y.0 y.0 refl))) ih
       go (Err d) ih = ih
 
 starts_pass : (may : ℕ → Bool) (t place : ℕ) (xs : List Action) → ((a : ℕ) → list_any (may_start a) xs ≡ true → may a ≡ true) → list_all (λ (s : StartAt). may s.act.0) (starts_from t place xs) ≡ true
@@ -121,14 +121,14 @@ starts_pass may t place (Start a ∷ xs) h =
     (h a.0 (or_left (a.0 == a.0) (list_any (may_start a.0) xs) (eq-eqb a.0 a.0 refl)))
     (starts_pass may t (place + 1) xs (λ n k. h n (or_right (a.0 == n) (list_any (may_start n) xs) k)))
 
-raises_may : (snap : Snapshot) (e : ℕ) (xs : List Action) → list_any (action_raises snap e) xs ≡ true → list_any (may_raise e) xs ≡ true
+raises_may : (snap : Snapshot) (e : ℕ) (xs : List Action) → list_any (action_raises snap.seen e) xs ≡ true → list_any (may_raise e) xs ≡ true
 raises_may snap e [] h = h
-raises_may snap e (x ∷ xs) h = elim (or_cases (action_raises snap e x) (list_any (action_raises snap e) xs) h) [
+raises_may snap e (x ∷ xs) h = elim (or_cases (action_raises snap.seen e x) (list_any (action_raises snap.seen e) xs) h) [
   | inl k ↦ or_left (may_raise e x) (list_any (may_raise e) xs) (one x k)
   | inr k ↦ or_right (may_raise e x) (list_any (may_raise e) xs) (raises_may snap e xs k)
 ]
   where
-    one : (x : Action) → action_raises snap e x ≡ true → may_raise e x ≡ true
+    one : (x : Action) → action_raises snap.seen e x ≡ true → may_raise e x ≡ true
     one (Assign y value) k = (and_both (e == 0) (is_fault (value_of snap.seen value)) k).0
     one (Raise f) k = k
     one (Start a) k = absurd (true≢false (sym k))
@@ -165,12 +165,12 @@ module _ (chart : Chart) (u : ℕ) (snap : Snapshot) where
       (ap (λ (o : Option Transition). option_map_or (λ trans. list_any test trans.actions) o false) w.1
       ∙ ap (λ (o : Option Transition). list_any test (Rattle.std.specs.Prelude.unwrap_or (option_map (λ trans. trans.actions) o) [])) (sym w.1) ∙ h))
 
-  writes_within : list_all (λ (w : Write). (held_by chart u).vars w.var.0) (merged (flat_map (λ p. filter_map (write_of snap p.id.0) p.actions) (own_fired (part_of chart u) snap))) ≡ true
+  writes_within : list_all (λ (w : Write). (held_by chart u).vars w.var.0) (merged (flat_map (λ p. filter_map (write_of snap.seen p.id.0) p.actions) (own_fired (part_of chart u) snap))) ≡ true
   writes_within =
-      merged_pass (λ w. (held_by chart u).vars w.var.0) (flat_map (λ p. filter_map (write_of snap p.id.0) p.actions) (own_fired (part_of chart u) snap))
-      (ap (list_all (λ (w : Write). (held_by chart u).vars w.var.0)) (ap (flat_map (λ (p : PartTransition). filter_map (write_of snap p.id.0) p.actions)) own_fired_at
-      ∙ Rattle.std.proofs.lemmas.List.Folds.flat_map-map (λ (p : PartTransition). filter_map (write_of snap p.id.0) p.actions) (trans_at chart u) mine)
-      ∙ all_flat (λ (w : Write). (held_by chart u).vars w.var.0) (λ t. filter_map (write_of snap (trans_at chart u t).id.0) (trans_at chart u t).actions) mine (λ t m.
+      merged_pass (λ w. (held_by chart u).vars w.var.0) (flat_map (λ p. filter_map (write_of snap.seen p.id.0) p.actions) (own_fired (part_of chart u) snap))
+      (ap (list_all (λ (w : Write). (held_by chart u).vars w.var.0)) (ap (flat_map (λ (p : PartTransition). filter_map (write_of snap.seen p.id.0) p.actions)) own_fired_at
+      ∙ Rattle.std.proofs.lemmas.List.Folds.flat_map-map (λ (p : PartTransition). filter_map (write_of snap.seen p.id.0) p.actions) (trans_at chart u) mine)
+      ∙ all_flat (λ (w : Write). (held_by chart u).vars w.var.0) (λ t. filter_map (write_of snap.seen (trans_at chart u t).id.0) (trans_at chart u t).actions) mine (λ t m.
       let o = mine_owned t m in
       writes_pass snap (trans_at chart u t).id.0 (held_by chart u).vars (trans_at chart u t).actions (λ x k.
       or_left (has_own chart u (assigns x)) (list_any (λ a. is_act_at chart u a && has_output chart x a) (all_acts chart))
@@ -188,11 +188,11 @@ module _ (chart : Chart) (u : ℕ) (snap : Snapshot) where
 
   raised_may : (e : ℕ) → is_raised_by snap (own_fired (part_of chart u) snap) e ≡ true → (held_by chart u).events e ≡ true
   raised_may e h =
-      let w = any_mem (λ t. list_any (action_raises snap e) (trans_at chart u t).actions) mine
-      (sym (any_map (λ (p : PartTransition). list_any (action_raises snap e) p.actions) (trans_at chart u) mine) ∙ ap (list_any (λ (p : PartTransition). list_any (action_raises snap e) p.actions)) (sym own_fired_at) ∙ h) in
+      let w = any_mem (λ t. list_any (action_raises snap.seen e) (trans_at chart u t).actions) mine
+      (sym (any_map (λ (p : PartTransition). list_any (action_raises snap.seen e) p.actions) (trans_at chart u) mine) ∙ ap (list_any (λ (p : PartTransition). list_any (action_raises snap.seen e) p.actions)) (sym own_fired_at) ∙ h) in
       let o = mine_owned w.0 w.1 in
       or_right (is_event_at chart u e) (has_own chart u (λ trans. list_any (may_raise e) trans.actions))
-      (done_by_own (may_raise e) w.0 o.0 o.1 (raises_may snap e (actions_of chart w.0) (ap (list_any (action_raises snap e)) (sym (own_actions chart u w.0 o.1)) ∙ w.2)))
+      (done_by_own (may_raise e) w.0 o.0 o.1 (raises_may snap e (actions_of chart w.0) (ap (list_any (action_raises snap.seen e)) (sym (own_actions chart u w.0 o.1)) ∙ w.2)))
 
   raised_within : list_all (λ (e : EventId). (held_by chart u).events e.0) (map event_id (filter (is_raised_by snap (own_fired (part_of chart u) snap)) (range_with_len 0 Rattle.wf_model.specs.Limits.max_events))) ≡ true
   raised_within =

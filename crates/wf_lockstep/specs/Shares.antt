@@ -52,8 +52,8 @@ share_from chart c entries u k outers =
       from = record { 0 = u };
       step = k;
       flips = map state_id (moved_of_unit chart c entries u);
-      writes = merged (writes_of chart (snapshot_of chart c entries) (fired_of_unit chart c entries u));
-      raised = raised_by chart (snapshot_of chart c entries) (fired_of_unit chart c entries u);
+      writes = merged (writes_of chart (snapshot_of chart c entries).seen (fired_of_unit chart c entries u));
+      raised = raised_by chart (snapshot_of chart c entries).seen (fired_of_unit chart c entries u);
       starts = starts_of chart (fired_of_unit chart c entries u);
       fired = map trans_id (fired_of_unit chart c entries u);
       outer = outers;

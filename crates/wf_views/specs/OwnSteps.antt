@@ -22,7 +22,7 @@ transition_in part t = find (λ trans. trans.id.0 == t) part.transitions
 
 -- the source is active, the event is there, and the guard is true
 abbrev pub is_ready_in : Snapshot → PartTransition → Bool
-is_ready_in snap trans = is_active snap trans.source.0 && (has_event snap trans.event && has_guard snap trans.guard)
+is_ready_in snap trans = is_active snap.seen trans.source.0 && (has_event snap.there trans.event && has_guard snap.seen trans.guard)
 
 abbrev pub is_enabled_in : PartData → Snapshot → ℕ → Bool
 is_enabled_in part snap t = option_map_or (is_ready_in snap) (transition_in part t) false
@@ -44,11 +44,11 @@ differs false b = b
 
 -- the component goes in or out
 abbrev pub flips_in : PartData → Snapshot → Component → Bool
-flips_in part snap c = differs (is_active snap c.state.0) (is_in_after (fires_in part snap) c (is_active snap c.state.0))
+flips_in part snap c = differs (is_active snap.seen c.state.0) (is_in_after (fires_in part snap) c (is_active snap.seen c.state.0))
 
 -- one of these transitions raises event e
 abbrev pub is_raised_by : Snapshot → List PartTransition → ℕ → Bool
-is_raised_by snap fired e = list_any (λ trans. list_any (action_raises snap e) trans.actions) fired
+is_raised_by snap fired e = list_any (λ trans. list_any (action_raises snap.seen e) trans.actions) fired
 
 -- the update of this step, whose outers these are
 unfoldable pub part_step : PartData → ℕ → Snapshot → List Outer → Update
@@ -57,7 +57,7 @@ part_step part step snap outers =
       from = part.unit;
       step = step;
       flips = map (λ c. c.state) (filter (flips_in part snap) part.components);
-      writes = merged (flat_map (λ trans. filter_map (write_of snap trans.id.0) trans.actions) (own_fired part snap));
+      writes = merged (flat_map (λ trans. filter_map (write_of snap.seen trans.id.0) trans.actions) (own_fired part snap));
       raised = map event_id (filter (is_raised_by snap (own_fired part snap)) (range_with_len 0 max_events));
       starts = flat_map (λ trans. starts_from trans.id.0 0 trans.actions) (own_fired part snap);
       fired = map (λ trans. trans.id) (own_fired part snap);

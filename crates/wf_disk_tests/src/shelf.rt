@@ -3,8 +3,8 @@ ghost use Rattle.std.specs.Prelude.{◌≡◌, ◌<◌, ◌+◌, ◌-◌, ◌^�
 ghost use Rattle.wf_disk.specs.Disk.{Only, put_at, last_count};
 ghost use Rattle.wf_disk.specs.Shelf.{HasNothingUnsynced};
 
-use crate::{Disk, DiskShelf, TakeRefused, WriteRefused};
 use std::test::Fail;
+use wf_disk::{Disk, DiskShelf, TakeRefused, WriteRefused};
 use wf_model::{Failed, Name};
 
 /// Writes over the beginning of a disk, and syncs.
@@ -59,6 +59,7 @@ impl Disk for Dead {
       may_leave = λ c. c ≡ [];
       left_since = λ t c. c ≡ [];
       is_to_fail = λ n. n ≡ n;
+      is_to_stop = λ n. n ≡ n;
       has_room = λ writes bytes. ⊥;
     } };
 

@@ -7,7 +7,7 @@ use std::io::ErrorKind;
 use std::process::ExitCode;
 use wf_io::{StdClock, StdSink, StdSource};
 use wf_model::{Bytes, List, NoMemory, Status};
-use wf_top::mentor;
+use wf_top::{exit_number, mentor};
 
 /// The words after the program's name. None of them where one isn't text: no command has no words.
 fn words(rt: &HostRuntime) -> Result<List<Bytes>, NoMemory> {
@@ -38,6 +38,5 @@ fn run(rt: &HostRuntime) -> Result<Status, NoMemory> {
 }
 
 fn main(rt: HostRuntime) -> ExitCode {
-    let status = run(&rt).unwrap_or(Status::NoMemory);
-    ExitCode::from(status.number())
+    ExitCode::from(exit_number(run(&rt)))
 }

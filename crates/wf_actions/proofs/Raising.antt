@@ -6,7 +6,7 @@ use Rattle.std.proofs.lemmas.List.FromFn.{length-range_with_len, get_or-range_wi
 use Rattle.std.proofs.lemmas.List.Kept.{IsStrictlyIncreasing-filter}
 use Rattle.wf_model.specs.declared.ids.EventId.{EventId}
 use Rattle.wf_model.specs.declared.chart.Chart.{Chart}
-use Rattle.wf_semantics.specs.Snapshot.{Snapshot}
+use Rattle.wf_model.specs.Seen.{Seen}
 use Rattle.wf_semantics.specs.Effects.{raises, raised_by}
 use Rattle.wf_actions.specs.Events.{numbers_of}
 use Rattle.wf_actions.proofs.Ascending.{one_union}
@@ -38,12 +38,12 @@ range_ascends n k l =
     let all : length (range_with_len 0 n) ≡ n = length-range_with_len 0 n in
     omega (arith, get_or-range_with_len 0 n k 0 (omega arith), get_or-range_with_len 0 n (k + 1) 0 (omega arith))
 
-raised_ascends : (chart : Chart) (snap : Snapshot) (fired : List ℕ) → IsStrictlyIncreasing (numbers_of (raised_by chart snap fired))
-raised_ascends chart snap fired =
-    let ks : List ℕ = filter (λ e. list_any (raises chart snap e) fired) (range_with_len 0 (length chart.events)) in
-    subst IsStrictlyIncreasing (sym (numbers_back ks)) (IsStrictlyIncreasing-filter (λ e. list_any (raises chart snap e) fired) (range_with_len 0 (length chart.events)) (range_ascends (length chart.events)))
+raised_ascends : (chart : Chart) (seen : Seen) (fired : List ℕ) → IsStrictlyIncreasing (numbers_of (raised_by chart seen fired))
+raised_ascends chart seen fired =
+    let ks : List ℕ = filter (λ e. list_any (raises chart seen e) fired) (range_with_len 0 (length chart.events)) in
+    subst IsStrictlyIncreasing (sym (numbers_back ks)) (IsStrictlyIncreasing-filter (λ e. list_any (raises chart seen e) fired) (range_with_len 0 (length chart.events)) (range_ascends (length chart.events)))
 
-pub shares_raised : (chart : Chart) (snap : Snapshot) (fired : List ℕ) (events : List EventId) → IsStrictlyIncreasing (numbers_of events) → ((e : ℕ) → Contains (numbers_of events) e ↔ Contains (numbers_of (raised_by chart snap fired)) e) → events ≡ raised_by chart snap fired
-shares_raised chart snap fired events up same =
-    same_numbers events (raised_by chart snap fired)
-    (one_union (numbers_of events) (numbers_of (raised_by chart snap fired)) up (raised_ascends chart snap fired) same)
+pub shares_raised : (chart : Chart) (seen : Seen) (fired : List ℕ) (events : List EventId) → IsStrictlyIncreasing (numbers_of events) → ((e : ℕ) → Contains (numbers_of events) e ↔ Contains (numbers_of (raised_by chart seen fired)) e) → events ≡ raised_by chart seen fired
+shares_raised chart seen fired events up same =
+    same_numbers events (raised_by chart seen fired)
+    (one_union (numbers_of events) (numbers_of (raised_by chart seen fired)) up (raised_ascends chart seen fired) same)

@@ -13,7 +13,7 @@ use Rattle.wf_model.specs.declared.chart.Action.TheVariants.{Assign, Raise, Star
 use Rattle.wf_model.specs.declared.chart.Chart.{Chart}
 use Rattle.wf_model.specs.declared.update.Write.{Write}
 use Rattle.wf_model.specs.Values.{value_of}
-use Rattle.wf_semantics.specs.Snapshot.{Snapshot}
+use Rattle.wf_model.specs.Seen.{Seen}
 use Rattle.wf_semantics.specs.Effects.{actions_of, after_action, after_actions, after_fired}
 use Rattle.wf_actions.specs.Writes.{of_variable, by_transition, over, winner, merged}
 use Rattle.wf_actions.specs.Store.{write_of, writes_of, after_writes}
@@ -26,26 +26,26 @@ after_append : (ws vs : List Write) (store : List Val) → after_writes (ws ++ v
 after_append [] vs store = refl
 after_append (w ∷ ws) vs store = after_append ws vs (set store w.var.0 w.val)
 
-one_action : (snap : Snapshot) (t : ℕ) (a : Action) (ws : List Write) (store : List Val) → after_writes (cons_option (write_of snap t a) ws) store ≡ after_writes ws (after_action snap a store)
-one_action snap t (Assign x value) ws store = go (value_of snap.seen value) refl
+one_action : (seen : Seen) (t : ℕ) (a : Action) (ws : List Write) (store : List Val) → after_writes (cons_option (write_of seen t a) ws) store ≡ after_writes ws (after_action seen a store)
+one_action seen t (Assign x value) ws store = go (value_of seen value) refl
   where
-    go : (r : Result Val Fault) → value_of snap.seen value ≡ r → after_writes (cons_option (write_of snap t (Assign x value)) ws) store ≡ after_writes ws (after_action snap (Assign x value) store)
+    go : (r : Result Val Fault) → value_of seen value ≡ r → after_writes (cons_option (write_of seen t (Assign x value)) ws) store ≡ after_writes ws (after_action seen (Assign x value) store)
     go (Ok val) e = rw e refl
     go (Err fault) e = rw e refl
-one_action snap t (Raise e) ws store = refl
-one_action snap t (Start a) ws store = refl
+one_action seen t (Raise e) ws store = refl
+one_action seen t (Start a) ws store = refl
 
-actions_store : (snap : Snapshot) (t : ℕ) (acts : List Action) (store : List Val) → after_writes (filter_map (write_of snap t) acts) store ≡ after_actions snap acts store
-actions_store snap t [] store = refl
-actions_store snap t (a ∷ acts) store =
-    one_action snap t a (filter_map (write_of snap t) acts) store ∙ actions_store snap t acts (after_action snap a store)
+actions_store : (seen : Seen) (t : ℕ) (acts : List Action) (store : List Val) → after_writes (filter_map (write_of seen t) acts) store ≡ after_actions seen acts store
+actions_store seen t [] store = refl
+actions_store seen t (a ∷ acts) store =
+    one_action seen t a (filter_map (write_of seen t) acts) store ∙ actions_store seen t acts (after_action seen a store)
 
-fired_store : (chart : Chart) (snap : Snapshot) (fired : List ℕ) (store : List Val) → after_writes (writes_of chart snap fired) store ≡ after_fired chart snap fired store
-fired_store chart snap [] store = refl
-fired_store chart snap (t ∷ ts) store =
-    after_append (filter_map (write_of snap t) (actions_of chart t)) (writes_of chart snap ts) store
-    ∙ ap (λ (s : List Val). after_writes (writes_of chart snap ts) s) (actions_store snap t (actions_of chart t) store)
-    ∙ fired_store chart snap ts (after_actions snap (actions_of chart t) store)
+fired_store : (chart : Chart) (seen : Seen) (fired : List ℕ) (store : List Val) → after_writes (writes_of chart seen fired) store ≡ after_fired chart seen fired store
+fired_store chart seen [] store = refl
+fired_store chart seen (t ∷ ts) store =
+    after_append (filter_map (write_of seen t) (actions_of chart t)) (writes_of chart seen ts) store
+    ∙ ap (λ (s : List Val). after_writes (writes_of chart seen ts) s) (actions_store seen t (actions_of chart t) store)
+    ∙ fired_store chart seen ts (after_actions seen (actions_of chart t) store)
 
 after_length : (ws : List Write) (store : List Val) → length (after_writes ws store) ≡ length store
 after_length [] store = refl
@@ -101,28 +101,28 @@ one_value None first = refl
 one_value (Some w) first = refl
 
 -- the fired transitions ascend, and so do those of their writes
-block_rises : (snap : Snapshot) (t lo : ℕ) (acts : List Action) (rest : List Write) → lo ≤ t → Rises t rest → Rises lo (filter_map (write_of snap t) acts ++ rest)
-block_rises snap t lo [] rest l r = rises_weaker lo t rest l r
-block_rises snap t lo (Raise e ∷ acts) rest l r = block_rises snap t lo acts rest l r
-block_rises snap t lo (Start a ∷ acts) rest l r = block_rises snap t lo acts rest l r
-block_rises snap t lo (Assign x value ∷ acts) rest l r =
-    go (value_of snap.seen value) refl (block_rises snap t t acts rest (omega arith) r) (block_rises snap t lo acts rest l r)
+block_rises : (seen : Seen) (t lo : ℕ) (acts : List Action) (rest : List Write) → lo ≤ t → Rises t rest → Rises lo (filter_map (write_of seen t) acts ++ rest)
+block_rises seen t lo [] rest l r = rises_weaker lo t rest l r
+block_rises seen t lo (Raise e ∷ acts) rest l r = block_rises seen t lo acts rest l r
+block_rises seen t lo (Start a ∷ acts) rest l r = block_rises seen t lo acts rest l r
+block_rises seen t lo (Assign x value ∷ acts) rest l r =
+    go (value_of seen value) refl (block_rises seen t t acts rest (omega arith) r) (block_rises seen t lo acts rest l r)
   where
-    go : (q : Result Val Fault) → value_of snap.seen value ≡ q → Rises t (filter_map (write_of snap t) acts ++ rest) → Rises lo (filter_map (write_of snap t) acts ++ rest)
-        → Rises lo (filter_map (write_of snap t) (Assign x value ∷ acts) ++ rest)
+    go : (q : Result Val Fault) → value_of seen value ≡ q → Rises t (filter_map (write_of seen t) acts ++ rest) → Rises lo (filter_map (write_of seen t) acts ++ rest)
+        → Rises lo (filter_map (write_of seen t) (Assign x value ∷ acts) ++ rest)
     go (Ok val) e more skip = rw e (l, more)
     go (Err fault) e more skip = rw e skip
 
-writes_rise : (chart : Chart) (snap : Snapshot) (lo : ℕ) (fired : List ℕ) → Ascends lo fired → Rises lo (writes_of chart snap fired)
-writes_rise chart snap lo [] a = tt
-writes_rise chart snap lo (t ∷ ts) a =
-    block_rises snap t lo (actions_of chart t) (writes_of chart snap ts) a.0
-    (rises_weaker t (t + 1) (writes_of chart snap ts) (omega arith) (writes_rise chart snap (t + 1) ts a.1))
+writes_rise : (chart : Chart) (seen : Seen) (lo : ℕ) (fired : List ℕ) → Ascends lo fired → Rises lo (writes_of chart seen fired)
+writes_rise chart seen lo [] a = tt
+writes_rise chart seen lo (t ∷ ts) a =
+    block_rises seen t lo (actions_of chart t) (writes_of chart seen ts) a.0
+    (rises_weaker t (t + 1) (writes_of chart seen ts) (omega arith) (writes_rise chart seen (t + 1) ts a.1))
 
-merged_store : (chart : Chart) (snap : Snapshot) (fired : List ℕ) (store : List Val) → IsStrictlyIncreasing fired → after_writes (merged (writes_of chart snap fired)) store ≡ after_fired chart snap fired store
-merged_store chart snap fired store up =
-    let ws : List Write = writes_of chart snap fired in
-    let rise : Rises 0 ws = writes_rise chart snap 0 fired (ascends_from 0 fired (λ l. omega arith) up) in
+merged_store : (chart : Chart) (seen : Seen) (fired : List ℕ) (store : List Val) → IsStrictlyIncreasing fired → after_writes (merged (writes_of chart seen fired)) store ≡ after_fired chart seen fired store
+merged_store chart seen fired store up =
+    let ws : List Write = writes_of chart seen fired in
+    let rise : Rises 0 ws = writes_rise chart seen 0 fired (ascends_from 0 fired (λ l. omega arith) up) in
     same_lists (after_writes (merged ws) store) (after_writes ws store)
     (after_length (merged ws) store ∙ sym (after_length ws store))
     (λ x d l.
@@ -132,9 +132,9 @@ merged_store chart snap fired store up =
     ∙ one_value (winner x ws) (get_or store x d)
     ∙ sym (last_wins 0 (of_variable x ws) (get_or store x d) (rises_filter x 0 ws rise))
     ∙ sym (read_after ws store x d h))
-    ∙ fired_store chart snap fired store
+    ∙ fired_store chart seen fired store
 
-pub shares_store : (chart : Chart) (snap : Snapshot) (fired : List ℕ) (writes : List Write) (store : List Val) → IsStrictlyIncreasing fired → ((t : ℕ) → by_transition t writes ≡ by_transition t (writes_of chart snap fired)) → after_writes (merged writes) store ≡ after_fired chart snap fired store
-shares_store chart snap fired writes store up same =
-    let ws : List Write = writes_of chart snap fired in
-    ap (λ (l : List Write). after_writes l store) (merged_same writes ws (same_winner writes ws same)) ∙ merged_store chart snap fired store up
+pub shares_store : (chart : Chart) (seen : Seen) (fired : List ℕ) (writes : List Write) (store : List Val) → IsStrictlyIncreasing fired → ((t : ℕ) → by_transition t writes ≡ by_transition t (writes_of chart seen fired)) → after_writes (merged writes) store ≡ after_fired chart seen fired store
+shares_store chart seen fired writes store up same =
+    let ws : List Write = writes_of chart seen fired in
+    ap (λ (l : List Write). after_writes l store) (merged_same writes ws (same_winner writes ws same)) ∙ merged_store chart seen fired store up

@@ -8,7 +8,7 @@ use Rattle.wf_model.specs.declared.chart.Chart.{Chart}
 use Rattle.wf_model.specs.declared.value.Val.{Val}
 use Rattle.wf_model.specs.declared.update.Write.{Write}
 use Rattle.wf_model.specs.declared.update.StartAt.{StartAt}
-use Rattle.wf_semantics.specs.Snapshot.{Snapshot}
+use Rattle.wf_model.specs.Seen.{Seen}
 use Rattle.wf_semantics.specs.Effects.{after_fired, raised_by, starts_of}
 use Rattle.wf_actions.specs.Writes.{of_variable, by_transition, winner, merged}
 use Rattle.wf_actions.specs.Events.{numbers_of}
@@ -37,9 +37,9 @@ CutsDoNotMatter = (first second : List Write) → merged (merged first ++ second
 -- in the order of its actions: merged, they give the store that follows in the central run
 abbrev pub SharesGiveStore : Type 0
 SharesGiveStore =
-    (chart : Chart) (snap : Snapshot) (fired : List ℕ) (writes : List Write) (store : List Val) → IsStrictlyIncreasing fired →
-    ((t : ℕ) → by_transition t writes ≡ by_transition t (writes_of chart snap fired)) →
-    after_writes (merged writes) store ≡ after_fired chart snap fired store
+    (chart : Chart) (seen : Seen) (fired : List ℕ) (writes : List Write) (store : List Val) → IsStrictlyIncreasing fired →
+    ((t : ℕ) → by_transition t writes ≡ by_transition t (writes_of chart seen fired)) →
+    after_writes (merged writes) store ≡ after_fired chart seen fired store
 
 -- lists that ascend and have the same members are equal, so a union of events doesn't depend on how they are cut into lists
 abbrev pub UnionIsOne : Type 0
@@ -49,9 +49,9 @@ UnionIsOne =
 -- events that ascend and have the members of those that fired transitions raise, are the raised events of the central run's step
 abbrev pub SharesGiveRaised : Type 0
 SharesGiveRaised =
-    (chart : Chart) (snap : Snapshot) (fired : List ℕ) (events : List EventId) → IsStrictlyIncreasing (numbers_of events) →
-    ((e : ℕ) → Contains (numbers_of events) e ↔ Contains (numbers_of (raised_by chart snap fired)) e) →
-    events ≡ raised_by chart snap fired
+    (chart : Chart) (seen : Seen) (fired : List ℕ) (events : List EventId) → IsStrictlyIncreasing (numbers_of events) →
+    ((e : ℕ) → Contains (numbers_of events) e ↔ Contains (numbers_of (raised_by chart seen fired)) e) →
+    events ≡ raised_by chart seen fired
 
 -- starts that are in order, and have at each transition and place those of the fired transitions, are the starts of the
 -- central run's step

@@ -5,8 +5,6 @@ mod events;
 mod joined;
 mod laws;
 mod order;
-#[cfg(test)]
-mod tests;
 mod writes;
 
 pub use events::raised;

@@ -17,16 +17,16 @@ use Rattle.wf_model.specs.declared.outer.OuterFault.TheVariants.{WrongUnit, NoIt
 use Rattle.wf_model.specs.Accepted.{IsAccepted, is_unit, is_known_activity}
 use Rattle.wf_model.specs.Sorts.{var_sort}
 use Rattle.wf_semantics.specs.Items.{Item, item_at}
-use Rattle.wf_semantics.specs.Run.{CentralState, act_unit}
+use Rattle.wf_semantics.specs.Run.{act_unit}
 use Rattle.wf_semantics.specs.Admission.{is_act_at, is_of, is_closed, is_pending, may_be_admitted}
 use Rattle.wf_model.proofs.Bools.{and_both}
 use Rattle.wf_semantics.proofs.Children.{lt_or_ge, item_at as item_there}
 use Rattle.wf_semantics.proofs.Facts.{parts}
 use Rattle.wf_model.proofs.Items.{all_at}
 use Rattle.wf_activities.specs.Completing.{are_wanted, may_complete, unless_pending}
-use Rattle.wf_activities.specs.Laws.{HaveSorts}
+use Rattle.wf_activities.specs.Laws.{HaveSorts, CompletesByAdmission}
 use Rattle.wf_activities.specs.UnitItems.{UnitItems}
-use Rattle.wf_activities.specs.Stock.{Stock, AreOf, items_at, state_with, with_sort, with_sorts, wanted_of, acts_of}
+use Rattle.wf_activities.specs.Stock.{Stock, AreOf, items_at, with_sort, with_sorts, wanted_of, acts_of}
 use Rattle.wf_activities.proofs.LawsHold.{values_wanted}
 
 -- an activity that is at a unit is one of the chart
@@ -92,17 +92,17 @@ pub items_read : (units : List UnitItems) (stock : Stock) (u : ℕ) (x : UnitIte
 items_read units stock u x e lt is =
     ap (λ (i : UnitItems). i.items) is ∙ sym (get_or-map (λ (i : UnitItems). i.items) units u x [] lt) ∙ ap (λ (l : List (List Item)). get_or l u []) e
 
-module _ (chart : Chart) (c : CentralState) (pending : List Entry) (u n : ℕ) (a : ActId) (outputs : List Output) where
-  pub wrong_unit : is_act_at chart u a.0 ≡ false → Err WrongUnit ≡ may_be_admitted chart c pending u (Complete n a outputs)
+module _ (chart : Chart) (items : ℕ → List Item) (pending : List Entry) (u n : ℕ) (a : ActId) (outputs : List Output) where
+  pub wrong_unit : is_act_at chart u a.0 ≡ false → Err WrongUnit ≡ may_be_admitted chart items pending u (Complete n a outputs)
   unfolding may_be_admitted
   wrong_unit h = rw h refl
 
   pub answered : (act : Activity) (wanted : List (VarId × Sort)) → is_act_at chart u a.0 ≡ true → slice_get chart.acts a.0 ≡ Some act → HaveSorts chart act.outputs wanted
-      → unless_pending (may_complete (c.items u) n a outputs wanted) (is_pending pending u n) ≡ may_be_admitted chart c pending u (Complete n a outputs)
+      → unless_pending (may_complete (items u) n a outputs wanted) (is_pending pending u n) ≡ may_be_admitted chart items pending u (Complete n a outputs)
   unfolding may_be_admitted may_complete
   answered act wanted at known sorts =
       rw (at, known, values_wanted chart act.outputs wanted outputs sorts)
-      (cases (is_of a.0 (item_at (c.items u) n)) (is_closed (item_at (c.items u) n)) (is_pending pending u n) (are_wanted wanted outputs))
+      (cases (is_of a.0 (item_at (items u) n)) (is_closed (item_at (items u) n)) (is_pending pending u n) (are_wanted wanted outputs))
     where
       cases : (p q r s : Bool) → unless_pending (cond (not p) (Err NoItem) (cond q (Err AlreadyDone) (cond (not s) (Err WrongOutput) (Ok tt)))) r
           ≡ cond (not p) (Err NoItem) (cond (q || r) (Err AlreadyDone) (cond (not s) (Err WrongOutput) (Ok tt)))
@@ -113,3 +113,6 @@ module _ (chart : Chart) (c : CentralState) (pending : List Entry) (u n : ℕ) (
       cases true false true true = refl
       cases true false false false = refl
       cases true false false true = refl
+
+pub completes_by_admission : CompletesByAdmission
+completes_by_admission chart items pending u n a outputs act wanted at known sorts = sym (answered chart items pending u n a outputs act wanted at known sorts)

@@ -99,15 +99,6 @@ values_wanted chart (x ∷ xs) (w ∷ ws) (o ∷ os) h =
     ∙ ap (λ (b : Bool). (o.var.0 == w.0.0) && (alike w.1 (val_sort o.val) && b)) (values_wanted chart xs ws os h.2)
     ∙ and_assoc (o.var.0 == w.0.0) (alike w.1 (val_sort o.val)) (are_wanted ws os)
 
-or_no : (b : Bool) → (b || false) ≡ b
-or_no true = refl
-or_no false = refl
-
-pub completes_by_admission : CompletesByAdmission
-unfolding may_be_admitted may_complete
-completes_by_admission chart c pending u n a outputs act wanted at_unit free known sorts =
-    rw (at_unit, free, or_no, known, values_wanted chart act.outputs wanted outputs sorts) refl
-
 pub same_starts : (p q : StartAt → Bool) → ((s : StartAt) → p s ≡ q s) → (starts : List StartAt) → filter p starts ≡ filter q starts
 same_starts p q h [] = refl
 same_starts p q h (s ∷ starts) = ap₂ (λ (b : Bool) (l : List StartAt). cond b (s ∷ l) l) (h s) (same_starts p q h starts)

@@ -4,7 +4,6 @@ pub mod Wanted
 pub mod Completed
 pub mod LawsHold
 pub mod Admitting
-pub mod ByItems
 pub mod Rows
 pub mod ChartTables
 pub mod Done

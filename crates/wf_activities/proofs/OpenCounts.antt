@@ -11,7 +11,7 @@ use Rattle.wf_semantics.specs.Items.{open_count, close_all, done_count}
 use Rattle.wf_semantics.specs.Run.{act_unit, completions_at, open_now}
 use Rattle.wf_activities.specs.UnitItems.{UnitItems}
 use Rattle.wf_activities.specs.Completed.{done_by, CompleteInTurn}
-use Rattle.wf_activities.specs.Stock.{items_in, state_with}
+use Rattle.wf_activities.specs.Stock.{items_in}
 use Rattle.wf_activities.proofs.Rows.{row_at, row_len}
 use Rattle.wf_activities.proofs.Admitting.{get_within}
 use Rattle.wf_activities.proofs.Turns.{turn_counts}
@@ -42,7 +42,7 @@ module _ (chart : Chart) (units : List UnitItems) (entries : List Entry) (turn :
   pub few_done : n ≤ open_count a (items_in units act.unit.0)
   few_done = omega (arith, counted, done)
 
-  pub open_made : (m : ℕ) → m + n ≡ open_count a (items_in units act.unit.0) → m ≡ open_now chart (state_with (items_in units)) entries a
+  pub open_made : (m : ℕ) → m + n ≡ open_count a (items_in units act.unit.0) → m ≡ open_now chart (items_in units) entries a
   open_made m e =
       let left : m ≡ open_count a (close_all (completions_at act.unit.0 entries) (items_in units act.unit.0)) = omega (arith, counted, done, e) in
       left ∙ ap (λ (o : Option ℕ). option_map_or (λ u. open_count a (close_all (completions_at u entries) (items_in units u))) o 0) (sym (unit_read chart a act there))

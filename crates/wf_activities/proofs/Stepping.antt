@@ -19,7 +19,7 @@ use Rattle.wf_model.proofs.Bools.{any_mem, mem_any}
 use Rattle.wf_semantics.proofs.Lists.{mem_range, mem_filter, filter_mem}
 use Rattle.wf_semantics.proofs.Children.{lt_or_ge}
 use Rattle.wf_activities.specs.UnitItems.{UnitItems, is_listed, listed}
-use Rattle.wf_activities.specs.Stock.{Stock, AreOf, items_at, steps_at, items_in, steps_in, state_with, acts_at, acts_of}
+use Rattle.wf_activities.specs.Stock.{Stock, AreOf, items_at, steps_at, items_in, steps_in, acts_at, acts_of}
 use Rattle.wf_activities.proofs.Rows.{row_at, row_len}
 use Rattle.wf_activities.proofs.ChartTables.{few}
 use Rattle.wf_activities.proofs.Admitting.{act_there, unit_known, get_within}
@@ -123,7 +123,7 @@ rooms_stay n xs ys e all = λ k d lt.
 pub taken : (chart : Chart) (stock : Stock) (entries : List Entry) (starts : List StartAt) (before after : List UnitItems) → IsAccepted chart → AreOf chart stock
     → ((u : ℕ) → items_in before u ≡ close_all (completions_at u entries) (items_at stock u)) → length before ≡ length stock.items → length after ≡ length before
     → ((u : ℕ) → u < length before → items_in after u ≡ items_in before u ++ added stock.acts starts u)
-    → (u : ℕ) → items_in after u ≡ items_closed (state_with (items_at stock)) entries u ++ new_items chart u starts
+    → (u : ℕ) → items_in after u ≡ items_closed (items_at stock) entries u ++ new_items chart u starts
 taken chart stock entries starts before after ok of closed lb la grown u = elim (lt_or_ge u (length before)) [
   | inl lt ↦
       grown u lt

@@ -11,7 +11,7 @@ use Rattle.wf_model.specs.declared.outer.Output.{Output}
 use Rattle.wf_model.specs.declared.outer.Entry.{Entry}
 use Rattle.wf_model.specs.declared.chart.Chart.{Chart}
 use Rattle.wf_semantics.specs.Items.{Item, Completion, one, item_at, open_count, close, close_all, done_count}
-use Rattle.wf_semantics.specs.Run.{CentralState, completions_of, completions_at}
+use Rattle.wf_semantics.specs.Run.{completions_of, completions_at}
 use Rattle.wf_semantics.specs.Admission.{is_of, is_closed, is_act_at, completes, is_pending, are_outputs_of, may_be_admitted, may_come_after, may_come}
 use Rattle.wf_model.proofs.Bools.{and_both, or_cases}
 use Rattle.wf_activities.specs.UnitItems.{is_open}
@@ -63,52 +63,52 @@ untouched u n (p ∷ ps) items h =
         closes_one items m n ∙ ap (λ (b : Bool). cond b (Rattle.std.specs.Option.option_map Rattle.wf_activities.specs.Laws.closed_item (item_at items n)) (item_at items n)) (same_flip n m ∙ k)
 
 -- what an admitted completion says of its item
-record Admitted (chart : Chart) (c : CentralState) (ps : List Entry) (u n : ℕ) (a : ActId) : Type 0 where
-  of : is_of a.0 (item_at (c.items u) n) ≡ true
-  open_item : is_open (item_at (c.items u) n) ≡ true
+record Admitted (chart : Chart) (items : ℕ → List Item) (ps : List Entry) (u n : ℕ) (a : ActId) : Type 0 where
+  of : is_of a.0 (item_at (items u) n) ≡ true
+  open_item : is_open (item_at (items u) n) ≡ true
   free : is_pending ps u n ≡ false
 
 abbrev answer_by : Bool → Bool → Bool → Bool → Result (Unit {0}) OuterFault
 answer_by at of done fits = cond (not at) (Err WrongUnit) (cond (not of) (Err NoItem) (cond done (Err AlreadyDone) (cond (not fits) (Err WrongOutput) (Ok tt))))
 
-admitted : (chart : Chart) (c : CentralState) (ps : List Entry) (u n : ℕ) (a : ActId) (outputs : List Output) → is_ok (may_be_admitted chart c ps u (Complete n a outputs)) ≡ true → Admitted chart c ps u n a
+admitted : (chart : Chart) (items : ℕ → List Item) (ps : List Entry) (u n : ℕ) (a : ActId) (outputs : List Output) → is_ok (may_be_admitted chart items ps u (Complete n a outputs)) ≡ true → Admitted chart items ps u n a
 unfolding may_be_admitted
-admitted chart c ps u n a outputs h = go (is_act_at chart u a.0) (item_at (c.items u) n) refl (is_pending ps u n) refl (are_outputs_of chart a.0 outputs) h
+admitted chart items ps u n a outputs h = go (is_act_at chart u a.0) (item_at (items u) n) refl (is_pending ps u n) refl (are_outputs_of chart a.0 outputs) h
   where
-    go : (at : Bool) (o : Option Item) → item_at (c.items u) n ≡ o → (p : Bool) → is_pending ps u n ≡ p → (s : Bool)
-        → is_ok (answer_by at (is_of a.0 o) (is_closed o || p) s) ≡ true → Admitted chart c ps u n a
+    go : (at : Bool) (o : Option Item) → item_at (items u) n ≡ o → (p : Bool) → is_pending ps u n ≡ p → (s : Bool)
+        → is_ok (answer_by at (is_of a.0 o) (is_closed o || p) s) ≡ true → Admitted chart items ps u n a
     go false o e p q s k = absurd (true≢false (sym k))
     go true None e p q s k = absurd (true≢false (sym k))
     go true (Some x) e p q s k = by_bits (x.act.0 == a.0) refl x.closed refl p q k
       where
         by_bits : (f : Bool) → (x.act.0 == a.0) ≡ f → (d : Bool) → x.closed ≡ d → (p : Bool) → is_pending ps u n ≡ p
-            → is_ok (answer_by true f (d || p) s) ≡ true → Admitted chart c ps u n a
+            → is_ok (answer_by true f (d || p) s) ≡ true → Admitted chart items ps u n a
         by_bits false fe d de p q k = absurd (true≢false (sym k))
         by_bits true fe true de p q k = absurd (true≢false (sym k))
         by_bits true fe false de true q k = absurd (true≢false (sym k))
         by_bits true fe false de false q k = record { of = ap (is_of a.0) e ∙ fe; open_item = ap is_open e ∙ ap not de; free = q }
 
-come_from : (chart : Chart) (c : CentralState) (u : ℕ) (ps xs : List Entry) → may_come_after chart c ps xs ≡ true → InTurn (completions_at u xs) (close_all (completions_at u ps) (c.items u))
-come_from chart c u ps [] h = tt
-come_from chart c u ps (x ∷ xs) h =
-    let both = and_both (is_ok (may_be_admitted chart c ps x.unit.0 x.outer)) (may_come_after chart c (ps ++ x ∷ []) xs) h in
-    let grown : close_all (completions_at u (ps ++ x ∷ [])) (c.items u) ≡ close_all (completions_at u (x ∷ [])) (close_all (completions_at u ps) (c.items u)) =
-    ap (λ (cs : List Completion). close_all cs (c.items u)) (completions_append u ps (x ∷ [])) ∙ close_all_append (completions_at u ps) (completions_at u (x ∷ [])) (c.items u) in
-    let rest = subst (λ (items : List Item). InTurn (completions_at u xs) items) (grown ∙ ap (λ (cs : List Completion). close_all cs (close_all (completions_at u ps) (c.items u))) (at_one x u))
-    (come_from chart c u (ps ++ x ∷ []) xs both.1) in
-    subst (λ (cs : List Completion). InTurn cs (close_all (completions_at u ps) (c.items u))) (sym (completions_append u (x ∷ []) xs ∙ ap (λ (cs : List Completion). cs ++ completions_at u xs) (at_one x u)))
+come_from : (chart : Chart) (items : ℕ → List Item) (u : ℕ) (ps xs : List Entry) → may_come_after chart items ps xs ≡ true → InTurn (completions_at u xs) (close_all (completions_at u ps) (items u))
+come_from chart items u ps [] h = tt
+come_from chart items u ps (x ∷ xs) h =
+    let both = and_both (is_ok (may_be_admitted chart items ps x.unit.0 x.outer)) (may_come_after chart items (ps ++ x ∷ []) xs) h in
+    let grown : close_all (completions_at u (ps ++ x ∷ [])) (items u) ≡ close_all (completions_at u (x ∷ [])) (close_all (completions_at u ps) (items u)) =
+    ap (λ (cs : List Completion). close_all cs (items u)) (completions_append u ps (x ∷ [])) ∙ close_all_append (completions_at u ps) (completions_at u (x ∷ [])) (items u) in
+    let rest = subst (λ (items : List Item). InTurn (completions_at u xs) items) (grown ∙ ap (λ (cs : List Completion). close_all cs (close_all (completions_at u ps) (items u))) (at_one x u))
+    (come_from chart items u (ps ++ x ∷ []) xs both.1) in
+    subst (λ (cs : List Completion). InTurn cs (close_all (completions_at u ps) (items u))) (sym (completions_append u (x ∷ []) xs ∙ ap (λ (cs : List Completion). cs ++ completions_at u xs) (at_one x u)))
     (by_unit (x.unit.0 == u) refl x.outer both.0 rest)
   where
-    by_unit : (b : Bool) → (x.unit.0 == u) ≡ b → (o : Outer) → is_ok (may_be_admitted chart c ps x.unit.0 o) ≡ true
-        → InTurn (completions_at u xs) (close_all (cond b (completions_of o) []) (close_all (completions_at u ps) (c.items u)))
-        → InTurn (cond b (completions_of o) [] ++ completions_at u xs) (close_all (completions_at u ps) (c.items u))
+    by_unit : (b : Bool) → (x.unit.0 == u) ≡ b → (o : Outer) → is_ok (may_be_admitted chart items ps x.unit.0 o) ≡ true
+        → InTurn (completions_at u xs) (close_all (cond b (completions_of o) []) (close_all (completions_at u ps) (items u)))
+        → InTurn (cond b (completions_of o) [] ++ completions_at u xs) (close_all (completions_at u ps) (items u))
     by_unit false q o k r = r
     by_unit true q (Happen e) k r = r
     by_unit true q (Complete n a outputs) k r =
-        let here = admitted chart c ps u n a outputs (ap (λ (v : ℕ). is_ok (may_be_admitted chart c ps v (Complete n a outputs))) (sym (eqb-true x.unit.0 u q)) ∙ k) in
-        let stays = untouched u n ps (c.items u) here.free in
+        let here = admitted chart items ps u n a outputs (ap (λ (v : ℕ). is_ok (may_be_admitted chart items ps v (Complete n a outputs))) (sym (eqb-true x.unit.0 u q)) ∙ k) in
+        let stays = untouched u n ps (items u) here.free in
         (ap is_open stays ∙ here.open_item, ap (is_of a.0) stays ∙ here.of, r)
 
 -- entries that may come complete open items one after another
-pub come_in_turn : (chart : Chart) (c : CentralState) (entries : List Entry) → may_come chart c entries ≡ true → CompleteInTurn c.items entries
-come_in_turn chart c entries h u = come_from chart c u [] entries h
+pub come_in_turn : (chart : Chart) (items : ℕ → List Item) (entries : List Entry) → may_come chart items entries ≡ true → CompleteInTurn items entries
+come_in_turn chart items entries h u = come_from chart items u [] entries h

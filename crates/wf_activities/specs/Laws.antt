@@ -12,10 +12,10 @@ use Rattle.wf_model.specs.declared.outer.Entry.{Entry}
 use Rattle.wf_model.specs.declared.update.StartAt.{StartAt}
 use Rattle.wf_model.specs.Sorts.{var_sort}
 use Rattle.wf_semantics.specs.Items.{Item, new_item, item_at, open_count, close}
-use Rattle.wf_semantics.specs.Run.{CentralState, new_items}
+use Rattle.wf_semantics.specs.Run.{new_items}
 use Rattle.wf_semantics.specs.Admission.{is_act_at, is_closed, is_pending, may_be_admitted}
 use Rattle.wf_activities.specs.UnitItems.{is_listed, listed}
-use Rattle.wf_activities.specs.Completing.{may_complete}
+use Rattle.wf_activities.specs.Completing.{may_complete, unless_pending}
 
 abbrev pub closed_item : Item → Item
 closed_item x = record x { closed = true }
@@ -48,12 +48,13 @@ HaveSorts chart [] (w ∷ ws) = ⊥
 HaveSorts chart (x ∷ xs) [] = ⊥
 HaveSorts chart (x ∷ xs) (w ∷ ws) = (w.0.0 ≡ x.0) × (var_sort chart x.0 ≡ Some w.1) × HaveSorts chart xs ws
 
--- a completion that isn't pending is admitted at its unit where the item may be completed, and else refused for the same reason
+-- a completion is admitted at its unit where the item may be completed and isn't pending, and else refused for the reason that the item's
+-- answer and the pending entries give
 abbrev pub CompletesByAdmission : Type 0
 CompletesByAdmission =
-    (chart : Chart) (c : CentralState) (pending : List Entry) (u n : ℕ) (a : ActId) (outputs : List Output) (act : Activity) (wanted : List (VarId × Sort)) →
-    is_act_at chart u a.0 ≡ true → is_pending pending u n ≡ false → slice_get chart.acts a.0 ≡ Some act → HaveSorts chart act.outputs wanted →
-    may_be_admitted chart c pending u (Complete n a outputs) ≡ may_complete (c.items u) n a outputs wanted
+    (chart : Chart) (items : ℕ → List Item) (pending : List Entry) (u n : ℕ) (a : ActId) (outputs : List Output) (act : Activity) (wanted : List (VarId × Sort)) →
+    is_act_at chart u a.0 ≡ true → slice_get chart.acts a.0 ≡ Some act → HaveSorts chart act.outputs wanted →
+    may_be_admitted chart items pending u (Complete n a outputs) ≡ unless_pending (may_complete (items u) n a outputs wanted) (is_pending pending u n)
 
 -- where the listed activities are those of the unit, the starts of a step make the items that the step's rule says
 abbrev pub GrowsByStep : Type 0

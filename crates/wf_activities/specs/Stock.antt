@@ -1,5 +1,5 @@
 -- The items of all units of a chart, with what is worked out once for the chart.
-use Rattle.std.specs.Prelude.{◌≡◌, ℕ, List, [], Option, length, map, filter, slice_index_or}
+use Rattle.std.specs.Prelude.{◌≡◌, ◌++◌, ℕ, List, [], Option, length, map, filter, slice_index_or}
 use Rattle.std.specs.List.{filter_map, range_with_len}
 use Rattle.std.specs.Option.{option_map}
 use Rattle.wf_model.specs.declared.ids.ActId.{ActId}
@@ -9,8 +9,8 @@ use Rattle.wf_model.specs.declared.chart.Chart.{Chart}
 use Rattle.wf_model.specs.Sorts.{var_sort}
 use Rattle.wf_model.specs.Ids.{act_id}
 use Rattle.wf_semantics.specs.Items.{Item}
-use Rattle.wf_semantics.specs.Configuration.{Leaf}
-use Rattle.wf_semantics.specs.Run.{CentralState}
+use Rattle.wf_model.specs.declared.update.StartAt.{StartAt}
+use Rattle.wf_semantics.specs.Run.{is_at}
 use Rattle.wf_semantics.specs.Admission.{is_act_at}
 use Rattle.wf_activities.specs.UnitItems.{UnitItems}
 
@@ -39,13 +39,14 @@ items_in units u = slice_index_or (map (λ i. i.items) units) u []
 abbrev pub steps_in : List UnitItems → ℕ → List ℕ
 steps_in units u = slice_index_or (map (λ i. i.steps) units) u []
 
--- a central state with these items, of which nothing else is looked at
-abbrev pub state_with : (ℕ → List Item) → CentralState
-state_with items = record { configuration = Leaf 0; store = []; raised = []; items = items; taken = 0 }
 
 -- the activities at unit u, ascending
 abbrev pub acts_at : Chart → ℕ → List ActId
 acts_at chart u = map act_id (filter (is_act_at chart u) (range_with_len 0 (length chart.acts)))
+
+-- at each unit the items of these starts, which stand behind those before, were started in this step
+abbrev pub AreStarted : Chart → ℕ → List StartAt → (before after : Stock) → Type 0
+AreStarted chart step starts before after = (u : ℕ) → steps_at after u ≡ steps_at before u ++ map (λ s. step) (filter (is_at chart u) starts)
 
 -- a variable with its sort, if it is one of the chart
 abbrev pub with_sort : Chart → VarId → Option (VarId × Sort)

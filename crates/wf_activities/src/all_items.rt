@@ -3,9 +3,9 @@ ghost use Rattle.std.specs.Prelude.{◌≡◌, ℕ, ◌+◌, ◌++◌, ◌<◌, 
 ghost use Rattle.std.specs.List.{range_with_len};
 ghost use Rattle.wf_model.specs.Accepted.{IsAccepted};
 ghost use Rattle.wf_model.specs.declared.outer.Outer.TheVariants.{Complete};
-ghost use Rattle.wf_semantics.specs.Run.{items_closed, open_now, is_at, new_items, numbered};
+ghost use Rattle.wf_semantics.specs.Run.{items_closed, open_now, new_items, numbered};
 ghost use Rattle.wf_semantics.specs.Admission.{may_be_admitted, may_come};
-ghost use Rattle.wf_activities.specs.Stock.{items_at, steps_at, state_with, AreOf};
+ghost use Rattle.wf_activities.specs.Stock.{items_at, steps_at, AreOf, AreStarted};
 
 use crate::{Items, admission, completions, growing, numbers, tables};
 use std::alloc::Global;
@@ -17,7 +17,7 @@ use wf_model::{
 
 /// The items of all units of one chart, and what is worked out once for it: the activities of each unit, and what a completion
 /// of each activity gives.
-#[derive(Debug, Drop)]
+#[derive(Drop)]
 pub struct AllItems {
     units: Vec<Items>,
     acts: List<List<ActId>>,
@@ -68,7 +68,7 @@ impl AllItems {
     ) -> Result<(), OuterFault>
         requires accepted { IsAccepted chart.now }
         requires of { AreOf chart.now self.now }
-        ensures { result ≡ may_be_admitted chart.now (state_with (items_at self.now)) pending.now unit.0 outer.now }
+        ensures { result ≡ may_be_admitted chart.now (items_at self.now) pending.now unit.0 outer.now }
     {
         match outer {
             Outer::Happen(event) => admission::admits_event(chart, unit, *event),
@@ -88,8 +88,8 @@ impl AllItems {
     ) -> Result<List<u32>, NoMemory>
         requires accepted { IsAccepted chart.now }
         requires of { AreOf chart.now self.now }
-        requires come { IsTrue (may_come chart.now (state_with (items_at self.now)) entries.now) }
-        ensures { IfOk result (λ counts. counts ≡ map (open_now chart.now (state_with (items_at self.now)) entries.now) (range_with_len 0 (length chart.now.acts))) }
+        requires come { IsTrue (may_come chart.now (items_at self.now) entries.now) }
+        ensures { IfOk result (λ counts. counts ≡ map (open_now chart.now (items_at self.now) entries.now) (range_with_len 0 (length chart.now.acts))) }
     {
         completions::open_then(alloc, chart, self.units.as_slice(), entries)
     }
@@ -107,10 +107,10 @@ impl AllItems {
     ) -> Result<List<(ActId, u32)>, NoMemory>
         requires accepted { IsAccepted chart.now }
         requires of { AreOf chart.now self.old }
-        requires come { IsTrue (may_come chart.now (state_with (items_at self.old)) entries.now) }
+        requires come { IsTrue (may_come chart.now (items_at self.old) entries.now) }
         requires room { (u : ℕ) → length (items_at self.old u) + length starts.now < 2 ^ 32 }
-        ensures items { OnOk result (items_at self.new ≡ (λ u. items_closed (state_with (items_at self.old)) entries.now u ++ new_items chart.now u starts.now)) }
-        ensures steps { OnOk result ((u : ℕ) → steps_at self.new u ≡ steps_at self.old u ++ map (λ s. step) (filter (is_at chart.now u) starts.now)) }
+        ensures items { OnOk result (items_at self.new ≡ (λ u. items_closed (items_at self.old) entries.now u ++ new_items chart.now u starts.now)) }
+        ensures steps { OnOk result (AreStarted chart.now step starts.now self.old self.new) }
         ensures numbered { IfOk result (λ n. n ≡ numbered chart.now (λ u. length (items_at self.old u)) starts.now) }
         ensures of { AreOf chart.now self.new }
         ensures err { OnErr result (self.new ≡ self.old) }
@@ -134,7 +134,7 @@ impl AllItems {
     ) -> Result<(), OuterFault>
         requires accepted { IsAccepted chart.now }
         requires of { AreOf chart.now self.now }
-        ensures { result ≡ may_be_admitted chart.now (state_with (items_at self.now)) pending.now unit.0 (Complete item act outputs.now) }
+        ensures { result ≡ may_be_admitted chart.now (items_at self.now) pending.now unit.0 (Complete item act outputs.now) }
     {
         if !admission::is_act_at(chart, unit, act) {
             return Err(OuterFault::WrongUnit);

@@ -5,7 +5,7 @@ ghost use Rattle.wf_model.specs.Accepted.{IsAccepted};
 ghost use Rattle.wf_semantics.specs.Items.{open_count, close_all};
 ghost use Rattle.wf_semantics.specs.Run.{completions_at, open_now, done_now};
 ghost use Rattle.wf_activities.specs.Completed.{completed_at, done_by, CompleteInTurn};
-ghost use Rattle.wf_activities.specs.Stock.{items_in, state_with};
+ghost use Rattle.wf_activities.specs.Stock.{items_in};
 
 use crate::{Items, admission};
 use std::alloc::Global;
@@ -71,7 +71,7 @@ pub fn open_then(
     requires accepted { IsAccepted chart.now }
     requires units { length units.now ≡ length chart.now.units }
     requires turn { CompleteInTurn (items_in units.now) entries.now }
-    ensures { IfOk result (λ counts. counts ≡ map (open_now chart.now (state_with (items_in units.now)) entries.now) (range_with_len 0 (length chart.now.acts))) }
+    ensures { IfOk result (λ counts. counts ≡ map (open_now chart.now (items_in units.now) entries.now) (range_with_len 0 (length chart.now.acts))) }
 {
     let done = done_counts(alloc, chart, entries)?;
     let mut counts = List::new(alloc);

@@ -26,6 +26,7 @@ fn reach(counts: &mut Vec<u32>, act: ActId) -> Result<(), NoMemory>
 /// where the table is shorter.
 pub fn widen(counts: &mut Vec<u32>, acts: &[ActId], starts: &[StartAt]) -> Result<(), NoMemory>
     ensures same { (a : ℕ) → slice_index counts.new.items a ≡ slice_index counts.old.items a }
+    ensures longer { length counts.old.items ≤ length counts.new.items }
     ensures wide { OnOk result (All (λ s. s.act.0 < length counts.new.items) (listed acts.now starts.now)) }
     ensures ready { All (λ s. s.act.0 < length counts.old.items) (listed acts.now starts.now) → IsOk result }
 {
@@ -40,6 +41,7 @@ pub fn widen(counts: &mut Vec<u32>, acts: &[ActId], starts: &[StartAt]) -> Resul
 /// Makes the table reach to all activities that a chart may have. What it counts stays, with memory and without.
 pub fn reach_all(counts: &mut Vec<u32>) -> Result<(), NoMemory>
     ensures same { (a : ℕ) → slice_index counts.new.items a ≡ slice_index counts.old.items a }
+    ensures longer { length counts.old.items ≤ length counts.new.items }
     ensures wide { OnOk result (max_acts ≤ length counts.new.items) }
 {
     reach(counts, ActId(MAX_ACTS as u32 - 1))
@@ -49,7 +51,8 @@ pub fn reach_all(counts: &mut Vec<u32>) -> Result<(), NoMemory>
 pub fn count_all(counts: &mut Vec<u32>, fresh: &[(ActId, u32)])
     requires wide { (a : ℕ) → 0 < starts_count a fresh.now → a < length counts.old.items }
     requires room { (a : ℕ) → slice_index counts.old.items a + length fresh.now < 2 ^ 32 }
-    ensures { (a : ℕ) → slice_index counts.new.items a ≡ slice_index counts.old.items a + starts_count a fresh.now }
+    ensures made { (a : ℕ) → slice_index counts.new.items a ≡ slice_index counts.old.items a + starts_count a fresh.now }
+    ensures long { length counts.new.items ≡ length counts.old.items }
 {
     for start in fresh {
         counts[start.0.0 as usize] += 1;

@@ -12,7 +12,7 @@ use std::marker::Model;
 use wf_model::{ActId, NoMemory, OuterFault, Output, Sort, StartAt, UnitId, VarId};
 
 /// The items of one unit, in the order of their starts. The first has number 1.
-#[derive(Debug, Drop)]
+#[derive(Drop)]
 pub struct Items {
     unit: UnitId,
     started: Vec<(ActId, u32)>,
@@ -53,12 +53,14 @@ impl Items {
     }
 
     /// Makes room: the next `grow` that adds at most so many items finds memory. The memory at least doubles where it grows, so
-    /// that many calls for one item more cost as little as one for all. After `NoMemory` the items are as before.
+    /// that many calls for one item more cost as little as one for all. After `NoMemory` the items are as before. The room that
+    /// there was stays.
     pub fn reserve(&mut self, more: u32) -> Result<(), NoMemory>
         ensures unit { self.new.unit ≡ self.old.unit }
         ensures items { self.new.items ≡ self.old.items }
         ensures steps { self.new.steps ≡ self.old.steps }
         ensures ok { OnOk result (more ≤ self.new.room) }
+        ensures room { self.old.room ≤ self.new.room }
     {
         self.started.reserve(more as usize)?;
         self.closed.reserve(more as usize)?;
@@ -66,7 +68,8 @@ impl Items {
     }
 
     /// Adds the starts of the listed activities in order, as items of this step. Grows with the starts times the listed
-    /// activities. It finds memory where there is room. After `NoMemory` the items are as before.
+    /// activities. It finds memory where there is room, and takes no more of it than it adds items. After `NoMemory` the items are
+    /// as before, with their room.
     pub fn grow(
         &mut self,
         chart_unit_acts: &[ActId],
@@ -79,6 +82,8 @@ impl Items {
         ensures steps { OnOk result (self.new.steps ≡ self.old.steps ++ map (λ s. step) (listed chart_unit_acts.now starts.now)) }
         ensures err_items { OnErr result (self.new.items ≡ self.old.items) }
         ensures err_steps { OnErr result (self.new.steps ≡ self.old.steps) }
+        ensures err_room { OnErr result (self.old.room ≤ self.new.room) }
+        ensures room { self.old.room ≤ self.new.room + length (listed chart_unit_acts.now starts.now) }
         ensures ready { All (λ a. a.0 < max_acts) chart_unit_acts.now → length (listed chart_unit_acts.now starts.now) ≤ self.old.room → IsOk result }
     {
         let before = self.started.len();
@@ -167,14 +172,17 @@ impl Items {
         self.len() == 0
     }
 
-    /// A copy of the items, with no more room than they need. Grows with the items.
+    /// A copy of the items, with as much room. Grows with the items and the room.
     pub fn copy(&self, alloc: Global) -> Result<Items, NoMemory>
         ensures unit { IfOk result (λ copy. copy.unit ≡ self.now.unit) }
         ensures items { IfOk result (λ copy. copy.items ≡ self.now.items) }
         ensures steps { IfOk result (λ copy. copy.steps ≡ self.now.steps) }
+        ensures room { IfOk result (λ copy. self.now.room ≤ copy.room) }
     {
-        let started = Vec::from_slice(alloc, self.started.as_slice())?;
-        let closed = Vec::from_slice(alloc, self.closed.as_slice())?;
+        let mut started = Vec::from_slice(alloc, self.started.as_slice())?;
+        started.reserve(self.started.capacity() - self.started.len())?;
+        let mut closed = Vec::from_slice(alloc, self.closed.as_slice())?;
+        closed.reserve(self.closed.capacity() - self.closed.len())?;
         let counts = Vec::from_slice(alloc, self.counts.as_slice())?;
         Ok(Items {
             unit: self.unit,

@@ -21,7 +21,8 @@ pub fn counts_open_items()
     ensures { CountsOpenItems }
 {}
 
-/// A completion that isn't pending is admitted at its unit where `may_complete` passes, and else refused for the same reason.
+/// A completion is admitted at its unit where `may_complete` passes and the item isn't pending, and else refused: as `may_complete`
+/// refuses it where there is no item, else as already done where it is pending, else as `may_complete` refuses it.
 pub fn completes_by_admission()
     ensures { CompletesByAdmission }
 {}

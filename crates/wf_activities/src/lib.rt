@@ -12,8 +12,6 @@ mod numbers;
 mod outputs;
 mod starts;
 mod tables;
-#[cfg(test)]
-mod tests;
 
 pub use all_items::AllItems;
 pub use completions::done_in;

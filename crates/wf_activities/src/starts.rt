@@ -46,6 +46,8 @@ pub fn append(
     ensures closed { OnOk result (closed.new.items ≡ closed.old.items ++ replicate (length (at_step step (listed acts.now starts.now))) false) }
     ensures started_err { OnErr result (started.new.items ≡ started.old.items) }
     ensures closed_err { OnErr result (closed.new.items ≡ closed.old.items) }
+    ensures started_room { vec_capacity started.old ≤ vec_capacity started.new }
+    ensures closed_room { vec_capacity closed.old ≤ vec_capacity closed.new }
     ensures ready { vec_len started.old + length (listed acts.now starts.now) ≤ vec_capacity started.old → vec_len closed.old + length (listed acts.now starts.now) ≤ vec_capacity closed.old → IsOk result }
 {
     let before = started.len();

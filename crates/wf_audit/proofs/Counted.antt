@@ -8,7 +8,7 @@ use Rattle.wf_audit.specs.declared.script.ScriptFault.TheVariants as faults
 use Rattle.wf_audit.specs.Lines.{lines_of}
 use Rattle.wf_audit.specs.Names.{Finder, names_of}
 use Rattle.wf_audit.specs.Script.{or_refused, said_in, line_at, with_line, lines_from, script_of}
-use Rattle.wf_lex.specs.Lex.{tokens_of}
+use Rattle.wf_lex.specs.Lex.{line_tokens_of}
 
 -- no want of memory
 abbrev pub IsNamed : {A : Type 0} → Result A ScriptFault → Type 0
@@ -22,7 +22,7 @@ or_refused_named number (Some said) = tt
 
 line_named : (names : Finder) (number : ℕ) (line : List ℕ) → IsNamed (line_at names number line)
 unfolding line_at
-line_named names number line = or_refused_named number (said_in names line (tokens_of line))
+line_named names number line = or_refused_named number (said_in names line (line_tokens_of line))
 
 both_named : (number : ℕ) (said : Result (Option CentralLine) ScriptFault) (more : Result (List (ℕ × CentralLine)) ScriptFault) → IsNamed said → IsNamed more
     → IsNamed (both (λ said more. Ok (with_line number said more)) said more)

@@ -15,13 +15,13 @@ use Rattle.wf_audit.specs.CentralText.{in_unit_order}
 
 -- the entries may come behind those that are pending
 abbrev pub Comes : Chart → CentralState → (pending xs : List Entry) → Type 0
-Comes chart c pending xs = may_come_after chart c pending xs ≡ true
+Comes chart c pending xs = may_come_after chart c.items pending xs ≡ true
 
 pub comes-append : (chart : Chart) (c : CentralState) (pending xs ys : List Entry) → Comes chart c pending xs → Comes chart c (pending ++ xs) ys → Comes chart c pending (xs ++ ys)
 comes-append chart c pending [] ys first then = subst (λ (p : List Entry). Comes chart c p ys) (append-nil pending) then
 comes-append chart c pending (x ∷ xs) ys first then =
-    let parts = and_both (is_ok (may_be_admitted chart c pending x.unit.0 x.outer)) (may_come_after chart c (pending ++ x ∷ []) xs) first in
-    and_true (is_ok (may_be_admitted chart c pending x.unit.0 x.outer)) (may_come_after chart c (pending ++ x ∷ []) (xs ++ ys)) parts.0
+    let parts = and_both (is_ok (may_be_admitted chart c.items pending x.unit.0 x.outer)) (may_come_after chart c.items (pending ++ x ∷ []) xs) first in
+    and_true (is_ok (may_be_admitted chart c.items pending x.unit.0 x.outer)) (may_come_after chart c.items (pending ++ x ∷ []) (xs ++ ys)) parts.0
     (comes-append chart c (pending ++ x ∷ []) xs ys parts.1 (subst (λ (p : List Entry). Comes chart c p ys) (sym (append_assoc pending (x ∷ []) xs)) then))
 
 -- both complete the same items of unit u
@@ -46,7 +46,7 @@ alike-other : (u : ℕ) (ps qs : List Entry) (x : Entry) → (x.unit.0 == u) ≡
 alike-other u ps qs x other same n =
     pending-append ps (x ∷ []) u n ∙ ap (λ b. is_pending ps u n || b) (other_none u x n other) ∙ or-false (is_pending ps u n) ∙ same n
 
-alike_admitted : (chart : Chart) (c : CentralState) (u : ℕ) (ps qs : List Entry) (outer : Outer) → Alike u ps qs → may_be_admitted chart c ps u outer ≡ may_be_admitted chart c qs u outer
+alike_admitted : (chart : Chart) (c : CentralState) (u : ℕ) (ps qs : List Entry) (outer : Outer) → Alike u ps qs → may_be_admitted chart c.items ps u outer ≡ may_be_admitted chart c.items qs u outer
 unfolding may_be_admitted
 alike_admitted chart c u ps qs (Happen e) same = refl
 alike_admitted chart c u ps qs (Complete n a outputs) same = rw (same n) refl
@@ -58,12 +58,12 @@ of_unit u xs = filter (λ x. x.unit.0 == u) xs
 comes-of_unit : (chart : Chart) (c : CentralState) (u : ℕ) (ps qs xs : List Entry) → Alike u ps qs → Comes chart c ps xs → Comes chart c qs (of_unit u xs)
 comes-of_unit chart c u ps qs [] same come = refl
 comes-of_unit chart c u ps qs (x ∷ xs) same come =
-    let parts = and_both (is_ok (may_be_admitted chart c ps x.unit.0 x.outer)) (may_come_after chart c (ps ++ x ∷ []) xs) come in
+    let parts = and_both (is_ok (may_be_admitted chart c.items ps x.unit.0 x.outer)) (may_come_after chart c.items (ps ++ x ∷ []) xs) come in
     elim (cases_Bool (x.unit.0 == u)) [
       | inl here ↦
           let alike : Alike x.unit.0 ps qs = subst (λ (v : ℕ). Alike v ps qs) (sym (eqb-true x.unit.0 u here)) same in
-          let admitted : is_ok (may_be_admitted chart c qs x.unit.0 x.outer) ≡ true = sym (ap is_ok (alike_admitted chart c x.unit.0 ps qs x.outer alike)) ∙ parts.0 in
-          rw here (and_true (is_ok (may_be_admitted chart c qs x.unit.0 x.outer)) (may_come_after chart c (qs ++ x ∷ []) (of_unit u xs)) admitted
+          let admitted : is_ok (may_be_admitted chart c.items qs x.unit.0 x.outer) ≡ true = sym (ap is_ok (alike_admitted chart c x.unit.0 ps qs x.outer alike)) ∙ parts.0 in
+          rw here (and_true (is_ok (may_be_admitted chart c.items qs x.unit.0 x.outer)) (may_come_after chart c.items (qs ++ x ∷ []) (of_unit u xs)) admitted
           (comes-of_unit chart c u (ps ++ x ∷ []) (qs ++ x ∷ []) xs (alike-more u ps qs x same) parts.1))
       | inr other ↦ rw other (comes-of_unit chart c u (ps ++ x ∷ []) qs xs (alike-other u ps qs x other same) parts.1)
     ]
@@ -95,10 +95,10 @@ comes-from chart c xs come at (suc len) qs none =
     (comes-from chart c xs come (at + 1) len (qs ++ of_unit at xs) none_after)
 
 -- what is pending may come unit by unit
-pub ordered_may_come : (chart : Chart) (c : CentralState) (entries : List Entry) → may_come chart c entries ≡ true → may_come chart c (in_unit_order chart entries) ≡ true
+pub ordered_may_come : (chart : Chart) (c : CentralState) (entries : List Entry) → may_come chart c.items entries ≡ true → may_come chart c.items (in_unit_order chart entries) ≡ true
 ordered_may_come chart c entries come = comes-from chart c entries come 0 (length chart.units) [] (λ u n h. refl)
 
 -- one more entry that may be admitted
-pub may_come-more : (chart : Chart) (c : CentralState) (entries : List Entry) (x : Entry) → may_come chart c entries ≡ true → is_ok (may_be_admitted chart c entries x.unit.0 x.outer) ≡ true
-    → may_come chart c (entries ++ x ∷ []) ≡ true
-may_come-more chart c entries x come admitted = comes-append chart c [] entries (x ∷ []) come (and_true (is_ok (may_be_admitted chart c entries x.unit.0 x.outer)) true admitted refl)
+pub may_come-more : (chart : Chart) (c : CentralState) (entries : List Entry) (x : Entry) → may_come chart c.items entries ≡ true → is_ok (may_be_admitted chart c.items entries x.unit.0 x.outer) ≡ true
+    → may_come chart c.items (entries ++ x ∷ []) ≡ true
+may_come-more chart c entries x come admitted = comes-append chart c [] entries (x ∷ []) come (and_true (is_ok (may_be_admitted chart c.items entries x.unit.0 x.outer)) true admitted refl)

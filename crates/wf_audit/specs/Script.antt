@@ -8,7 +8,7 @@ use Rattle.wf_model.specs.declared.chart.Chart.{Chart}
 use Rattle.wf_model.specs.declared.outer.Outer.{Outer}
 use Rattle.wf_lex.specs.declared.token.Token.{Token}
 use Rattle.wf_lex.specs.declared.token.LexFault.{LexFault}
-use Rattle.wf_lex.specs.Lex.{tokens_of}
+use Rattle.wf_lex.specs.Lex.{line_tokens_of}
 use Rattle.wf_audit.specs.declared.script.CentralLine.{CentralLine}
 use Rattle.wf_audit.specs.declared.script.CentralLine.TheVariants as lines
 use Rattle.wf_audit.specs.declared.script.ScriptFault.{ScriptFault}
@@ -56,7 +56,7 @@ or_refused number (Some said) = Ok said
 
 -- the line with this number
 unfoldable pub line_at : Finder → ℕ → List ℕ → Result (Option CentralLine) ScriptFault
-line_at names number line = or_refused number (said_in names line (tokens_of line))
+line_at names number line = or_refused number (said_in names line (line_tokens_of line))
 
 -- SCRIPTS
 

@@ -12,4 +12,4 @@ standing_of chart run = record { central = central_of chart run.central; pending
 -- the run is one of this chart, and what is pending may come in the next step
 pub record IsRun (chart : Chart) (run : Run) : Type 0 where
   pub of : IsOf chart run.central
-  pub come : IsTrue (may_come chart (central_of chart run.central) run.pending)
+  pub come : IsTrue (may_come chart (central_of chart run.central).items run.pending)

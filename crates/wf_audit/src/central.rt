@@ -17,7 +17,7 @@ use wf_model::{
 };
 
 /// Why a run has no text.
-#[derive(Clone, Copy, Debug, PartialEq, Eq, Error)]
+#[derive(Clone, Copy, Debug, Error)]
 pub enum RunFault {
     /// The text has more than `MAX_REPORT` bytes.
     #[error("text too long")]
@@ -38,7 +38,7 @@ impl From<NoMemory> for RunFault {
 }
 
 /// Where a run stands: its state, and the outers that were admitted for the next step.
-#[derive(Debug, Drop)]
+#[derive(Drop)]
 struct Run {
     central: CentralState,
     pending: List<Entry>,
@@ -215,7 +215,7 @@ impl Run {
         ensures taken { OnOk result (self.new.central.taken ≤ self.old.central.taken + 1) }
     {
         let reply = self.reply(alloc, checked, line)?;
-        reply_line(alloc, checked.chart(), number, &reply)
+        reply_line(alloc, checked, number, &reply)
     }
 }
 

@@ -7,8 +7,6 @@ mod names;
 mod outer;
 mod reply;
 mod script;
-#[cfg(test)]
-mod tests;
 mod values;
 
 pub use central::{RunFault, run_central};

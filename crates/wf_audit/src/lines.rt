@@ -3,7 +3,7 @@ ghost use Rattle.std.specs.Prelude.{◌≡◌, ◌≤◌, ◌<◌, [], ◌∷◌
 ghost use Rattle.wf_audit.specs.Lines as spec;
 
 /// The two parts of an input, lent.
-#[derive(Clone, Copy, Debug)]
+#[derive(Clone, Copy)]
 pub struct Division<'a> {
     /// All before the divider.
     pub chart: &'a [u8],

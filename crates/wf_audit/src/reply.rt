@@ -7,12 +7,12 @@ use itoa::Buffer;
 use std::alloc::Global;
 use wf_central::StepNotes;
 use wf_model::{
-    ActId, Bytes, Chart, EventId, List, NoMemory, OuterFault, Output, StateId, TransId, Val,
+    ActId, Bytes, Chart, Checked, EventId, List, NoMemory, OuterFault, Output, StateId, TransId, Val,
 };
 use wf_words::{act_name, append_number, event_name, state_name, var_name};
 
 /// The reply to a line of a script.
-#[derive(Debug, Drop)]
+#[derive(Drop)]
 pub enum Reply {
     /// The outer was admitted.
     Ok,
@@ -183,13 +183,18 @@ fn append_text(text: &mut Bytes, chart: &Chart, reply: &Reply) -> Result<(), NoM
 /// The line of the reply to the script's line with this number. A number that the chart hasn't is written as an empty
 /// name. Linear in what is written.
 #[tactic(auto, unfolding(crate::specs::Replies::numbered))]
-pub fn reply_line(alloc: Global, chart: &Chart, line: u32, reply: &Reply) -> Result<Bytes, NoMemory>
-    ensures { IfOk result (λ text. text ≡ spec.numbered line (spec.reply_text chart.now reply.now)) }
+pub fn reply_line(
+    alloc: Global,
+    checked: &Checked,
+    line: u32,
+    reply: &Reply,
+) -> Result<Bytes, NoMemory>
+    ensures { IfOk result (λ text. text ≡ spec.numbered line (spec.reply_text checked.now reply.now)) }
 {
     let mut text = List::new(alloc);
     append_number(&mut text, line.into())?;
     text.append(b": ")?;
-    append_text(&mut text, chart, reply)?;
+    append_text(&mut text, checked.chart(), reply)?;
     text.push(b'\n')?;
     Ok(text)
 }

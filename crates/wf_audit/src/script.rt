@@ -1,8 +1,7 @@
 //! Scripts of the central run.
 ghost use Rattle.std.specs.Prelude.{◌≡◌, ◌≤◌, ◌++◌, [], length, IfOk, OnOk};
 ghost use Rattle.std.specs.Result.{result_ok};
-ghost use Rattle.wf_model.specs.Accepted.{IsAccepted};
-ghost use Rattle.wf_lex.specs.Lex.{tokens_of};
+ghost use Rattle.wf_lex.specs.Lex.{line_tokens_of};
 ghost use Rattle.wf_audit.specs.Finders.{finder_of};
 ghost use Rattle.wf_audit.specs.Script as spec;
 ghost use Rattle.wf_model.specs.Limits.{max_input};
@@ -13,11 +12,11 @@ use crate::outer::outer_of;
 use crate::values::text_at;
 use std::alloc::Global;
 use thiserror::Error;
-use wf_lex::{LexFault, Token, tokens};
-use wf_model::{Chart, List, NoMemory, Outer, UnitId};
+use wf_lex::{LexFault, Token, line_tokens};
+use wf_model::{Checked, List, NoMemory, Outer, UnitId};
 
 /// A line of a script.
-#[derive(Debug, Drop)]
+#[derive(Drop)]
 pub enum CentralLine {
     /// An outer comes to a unit.
     Outer { unit: UnitId, outer: Outer },
@@ -28,7 +27,7 @@ pub enum CentralLine {
 }
 
 /// Why a script has no lines.
-#[derive(Clone, Copy, Debug, PartialEq, Eq, Error)]
+#[derive(Clone, Copy, Debug, Error)]
 pub enum ScriptFault {
     /// The first line outside the grammar, counted from 1.
     #[error("line {line}")]
@@ -110,11 +109,11 @@ fn said_by(
 }
 
 // The tokens of a line, if it has no fault.
-fn line_tokens(alloc: Global, line: &[u8]) -> Result<Option<List<Token>>, NoMemory>
+fn tokens_in(alloc: Global, line: &[u8]) -> Result<Option<List<Token>>, NoMemory>
     requires { length line.now ≤ max_input }
-    ensures { IfOk result (λ found. found ≡ result_ok (tokens_of line.now)) }
+    ensures { IfOk result (λ found. found ≡ result_ok (line_tokens_of line.now)) }
 {
-    match tokens(alloc, line) {
+    match line_tokens(alloc, line) {
         Ok(found) => Ok(Some(found)),
         Err(LexFault::NoMemory) => Err(NoMemory),
         Err(_) => Ok(None),
@@ -132,7 +131,7 @@ fn line_at(
     requires { length line.now ≤ max_input }
     ensures { spec.Gives result (spec.line_at (finder_of names.now) number line.now) }
 {
-    let said = match line_tokens(alloc, line)? {
+    let said = match tokens_in(alloc, line)? {
         Some(tokens) => said_by(alloc, names, line, tokens.as_slice())?,
         None => None,
     };
@@ -158,14 +157,13 @@ fn add(
 #[tactic(auto, unfolding(crate::specs::Script::script_of))]
 pub fn read_central(
     alloc: Global,
-    chart: &Chart,
+    checked: &Checked,
     script: &[u8],
 ) -> Result<List<(u32, CentralLine)>, ScriptFault>
-    requires accepted { IsAccepted chart.now }
-    requires within { length script.now ≤ max_input }
-    ensures { spec.Gives result (spec.script_of chart.now script.now) }
+    requires { length script.now ≤ max_input }
+    ensures { spec.Gives result (spec.script_of checked.now script.now) }
 {
-    let names = Names::of(alloc, chart)?;
+    let names = Names::of(alloc, checked.chart())?;
     let mut lines = List::new(alloc);
     let mut number = 0;
     let mut rest = script;

@@ -27,10 +27,10 @@ use Rattle.wf_semantics.proofs.Children.{item_at, lt_or_ge}
 use Rattle.wf_semantics.proofs.Configured.{inside_states}
 use Rattle.wf_semantics.proofs.Facts.{IsChart}
 use Rattle.wf_model.proofs.Rows.{row_at, row_len}
-use Rattle.wf_effects.specs.Seeing.{seeing, numbers}
+use Rattle.wf_effects.specs.Numbers.{numbers}
 use Rattle.wf_effects.proofs.Expressions.{can_read, guard_of}
 use Rattle.wf_central.specs.Kept.{bit}
-use Rattle.wf_central.specs.Sight.{CanBeRead, seen_by}
+use Rattle.wf_central.specs.Sight.{CanBeRead, seen_by, seeing}
 use Rattle.wf_central.specs.Made.{IsSeen, seen_of}
 use Rattle.wf_central.specs.declared.snapshot.StepSnapshot.{StepSnapshot}
 use Rattle.wf_central.proofs.Passing.{row_bit, past_end}
@@ -64,10 +64,10 @@ numbers_all f n z ns e past = elim (lt_or_ge z n) [
     index_past (x ∷ xs) (suc i) h = index_past xs i (omega arith)
 
 -- nothing is in, open or done past the end
-act_past : (chart : Chart) (c : CentralState) (entries : List Entry) (a : ℕ) → length chart.acts ≤ a → (open_now chart c entries a ≡ 0) × (done_now chart entries a ≡ false)
+act_past : (chart : Chart) (c : CentralState) (entries : List Entry) (a : ℕ) → length chart.acts ≤ a → (open_now chart c.items entries a ≡ 0) × (done_now chart entries a ≡ false)
 act_past chart c entries a ge =
     let none : slice_get chart.acts a ≡ None = past_end chart.acts a ge in (
-      ap (λ (o : Option Activity). option_map_or (λ (u : ℕ). open_count a (items_closed c entries u)) (option_map (λ act. act.unit.0) o) 0) none,
+      ap (λ (o : Option Activity). option_map_or (λ (u : ℕ). open_count a (items_closed c.items entries u)) (option_map (λ act. act.unit.0) o) 0) none,
       ap (λ (o : Option Activity). option_map_or (λ (u : ℕ). nat_lt 0 (done_count a (completions_at u entries))) (option_map (λ act. act.unit.0) o) false) none,
     )
 
@@ -84,18 +84,18 @@ module _ (chart : Chart) (ok : IsChart chart) (c : CentralState) (entries : List
   unfolding snapshot_of
   seen_same =
       let states : (z : ℕ) → bit snap.active.now z ≡ is_in z c.configuration = λ z. bits_all (λ s. is_in s c.configuration) (length chart.states) z snap.active.now seen.active (state_past z) in
-      let counts : (a : ℕ) → slice_index snap.counts.now a ≡ open_now chart c entries a = λ a. numbers_all (open_now chart c entries) (length chart.acts) a snap.counts.now seen.counts (λ ge. (act_past chart c entries a ge).0) in
+      let counts : (a : ℕ) → slice_index snap.counts.now a ≡ open_now chart c.items entries a = λ a. numbers_all (open_now chart c.items entries) (length chart.acts) a snap.counts.now seen.counts (λ ge. (act_past chart c entries a ge).0) in
       let dones : (a : ℕ) → bit snap.dones.now a ≡ done_now chart entries a = λ a. bits_all (done_now chart entries) (length chart.acts) a snap.dones.now seen.dones (λ ge. (act_past chart c entries a ge).1) in
       λ i. record { state = λ z. Some (states z i); var = slice_get (seen.store i); count = λ a. Some (counts a i); done = λ a. Some (dones a i) }
 
-  -- so the effects are those over what the step sees
-  pub seeing_same : seeing (seen_of snap) (is_there c entries) ≡ snapshot_of chart c entries
+  -- with the events
+  pub seeing_same : seeing (seen_of snap) (is_there c.raised entries) ≡ snapshot_of chart c entries
   unfolding snapshot_of
-  seeing_same = ap (λ (s : Seen). seeing s (is_there c entries)) seen_same
+  seeing_same = ap (λ (s : Seen). seeing s (is_there c.raised entries)) seen_same
 
-  has_event_same : (o : Option EventId) → ((e : EventId) → o ≡ Some e → e.0 < length chart.events) → has_event (seeing (seen_of snap) (bit there)) o ≡ has_event (seeing (seen_of snap) (is_there c entries)) o
+  has_event_same : (o : Option EventId) → ((e : EventId) → o ≡ Some e → e.0 < length chart.events) → has_event (bit there) o ≡ has_event (is_there c.raised entries) o
   has_event_same None known = refl
-  has_event_same (Some e) known = row_bit (is_there c entries) (length chart.events) e.0 there seen.events (known e refl)
+  has_event_same (Some e) known = row_bit (is_there c.raised entries) (length chart.events) e.0 there seen.events (known e refl)
 
   -- and the enabled transitions are those that the step enables
   pub enabled_same : (t : ℕ) → t < length chart.transitions → is_enabled chart (seeing (seen_of snap) (bit there)) t ≡ is_enabled chart (snapshot_of chart c entries) t
@@ -103,9 +103,9 @@ module _ (chart : Chart) (ok : IsChart chart) (c : CentralState) (entries : List
   enabled_same t lt =
       let w = item_at chart.transitions t lt in
       let shown = seeing (seen_of snap) (bit there) in
-      let whole = seeing (seen_of snap) (is_there c entries) in
+      let whole = seeing (seen_of snap) (is_there c.raised entries) in
       ap (λ (o : Option Transition). unwrap_or (option_map (is_ready shown) o) false) w.1
-      ∙ ap (λ (b : Bool). is_active shown w.0.source.0 && (b && has_guard shown w.0.guard)) (has_event_same w.0.event (λ e q. ok.known_event t w.0 e w.1 q))
+      ∙ ap (λ (b : Bool). is_active (seen_of snap) w.0.source.0 && (b && has_guard (seen_of snap) w.0.guard)) (has_event_same w.0.event (λ e q. ok.known_event t w.0 e w.1 q))
       ∙ sym (ap (λ (o : Option Transition). unwrap_or (option_map (is_ready whole) o) false) w.1)
       ∙ ap (λ (s : Snapshot). unwrap_or (option_map (is_ready s) (slice_get chart.transitions t)) false) seeing_same
 
@@ -114,20 +114,20 @@ module _ (chart : Chart) (ok : IsChart chart) (c : CentralState) (entries : List
     numbers_made : numbers fired ≡ fired_in chart c entries
     numbers_made = ap numbers made ∙ numbers_back (fired_in chart c entries)
 
-    pub store_made : (store : List Val) → store ≡ after_fired chart (seeing (seen_of snap) (is_there c entries)) (numbers fired) snap.store.now → store ≡ (next_state chart c entries).store
+    pub store_made : (store : List Val) → store ≡ after_fired chart (seen_of snap) (numbers fired) snap.store.now → store ≡ (next_state chart c entries).store
     unfolding next_state
     store_made store e =
         e
-        ∙ ap (λ (s : Snapshot). after_fired chart s (numbers fired) snap.store.now) seeing_same
-        ∙ ap (λ (ns : List ℕ). after_fired chart (snapshot_of chart c entries) ns snap.store.now) numbers_made
-        ∙ ap (after_fired chart (snapshot_of chart c entries) (fired_in chart c entries)) seen.store
+        ∙ ap (λ (s : Seen). after_fired chart s (numbers fired) snap.store.now) seen_same
+        ∙ ap (λ (ns : List ℕ). after_fired chart (snapshot_of chart c entries).seen ns snap.store.now) numbers_made
+        ∙ ap (after_fired chart (snapshot_of chart c entries).seen (fired_in chart c entries)) seen.store
 
-    pub raised_made : (raised : List EventId) → raised ≡ raised_by chart (seeing (seen_of snap) (is_there c entries)) (numbers fired) → raised ≡ (next_state chart c entries).raised
+    pub raised_made : (raised : List EventId) → raised ≡ raised_by chart (seen_of snap) (numbers fired) → raised ≡ (next_state chart c entries).raised
     unfolding next_state
     raised_made raised e =
         e
-        ∙ ap (λ (s : Snapshot). raised_by chart s (numbers fired)) seeing_same
-        ∙ ap (raised_by chart (snapshot_of chart c entries)) numbers_made
+        ∙ ap (λ (s : Seen). raised_by chart s (numbers fired)) seen_same
+        ∙ ap (raised_by chart (snapshot_of chart c entries).seen) numbers_made
 
     pub starts_made : (starts : List StartAt) → starts ≡ starts_of chart (numbers fired) → starts ≡ starts_of chart (fired_in chart c entries)
     starts_made starts e = e ∙ ap (starts_of chart) numbers_made

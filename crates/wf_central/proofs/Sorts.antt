@@ -75,7 +75,7 @@ abbrev answer : Bool → Bool → Bool → Bool → Result (Unit {0}) OuterFault
 answer here of shut wanted = cond (not here) (Err WrongUnit) (cond (not of) (Err NoItem) (cond shut (Err AlreadyDone) (cond (not wanted) (Err WrongOutput) (Ok tt))))
 
 -- what is admitted gives the wanted outputs
-admitted_outputs : (chart : Chart) (c : CentralState) (pending : List Entry) (u n : ℕ) (a : ActId) (os : List Output) → is_ok (may_be_admitted chart c pending u (Complete n a os)) ≡ true → are_outputs_of chart a.0 os ≡ true
+admitted_outputs : (chart : Chart) (c : CentralState) (pending : List Entry) (u n : ℕ) (a : ActId) (os : List Output) → is_ok (may_be_admitted chart c.items pending u (Complete n a os)) ≡ true → are_outputs_of chart a.0 os ≡ true
 unfolding may_be_admitted
 admitted_outputs chart c pending u n a os h =
     go (is_act_at chart u a.0) (is_of a.0 (item_at (c.items u) n)) (is_closed (item_at (c.items u) n) || is_pending pending u n) (are_outputs_of chart a.0 os) h
@@ -87,7 +87,7 @@ admitted_outputs chart c pending u n a os h =
     go true false shut false q = absurd (true≢false (sym q))
     go false of shut false q = absurd (true≢false (sym q))
 
-sorted_outer : (chart : Chart) (c : CentralState) (pending : List Entry) (u : ℕ) (o : Outer) (store : List Val) → is_ok (may_be_admitted chart c pending u o) ≡ true → HasSorts chart store → HasSorts chart (after_outer o store)
+sorted_outer : (chart : Chart) (c : CentralState) (pending : List Entry) (u : ℕ) (o : Outer) (store : List Val) → is_ok (may_be_admitted chart c.items pending u o) ≡ true → HasSorts chart store → HasSorts chart (after_outer o store)
 sorted_outer chart c pending u (Happen e) store h sorts = sorts
 sorted_outer chart c pending u (Complete n a os) store h sorts = go (slice_get chart.acts a.0) (admitted_outputs chart c pending u n a os h)
   where
@@ -96,10 +96,10 @@ sorted_outer chart c pending u (Complete n a os) store h sorts = go (slice_get c
     go (Some act) k = sorted_outputs chart act.outputs os store k sorts
 
 -- entries that may come keep the sorts
-pub sorted_after : (chart : Chart) (c : CentralState) (pending entries : List Entry) (store : List Val) → may_come_after chart c pending entries ≡ true → HasSorts chart store → HasSorts chart (after_entries entries store)
+pub sorted_after : (chart : Chart) (c : CentralState) (pending entries : List Entry) (store : List Val) → may_come_after chart c.items pending entries ≡ true → HasSorts chart store → HasSorts chart (after_entries entries store)
 sorted_after chart c pending [] store h sorts = sorts
 sorted_after chart c pending (x ∷ xs) store h sorts =
-    let both = and_both (is_ok (may_be_admitted chart c pending x.unit.0 x.outer)) (may_come_after chart c (pending ++ x ∷ []) xs) h in
+    let both = and_both (is_ok (may_be_admitted chart c.items pending x.unit.0 x.outer)) (may_come_after chart c.items (pending ++ x ∷ []) xs) h in
     sorted_after chart c (pending ++ x ∷ []) xs (after_outer x.outer store) both.1 (sorted_outer chart c pending x.unit.0 x.outer store both.0 sorts)
 
 -- first values have the sorts

@@ -1,5 +1,5 @@
 -- What a central state keeps, and which state of a chart it is.
-use Rattle.std.specs.Prelude.{◌≡◌, ◌*◌, ◌≤◌, ℕ, Bool, false, List, length, map, unwrap_or, slice_get}
+use Rattle.std.specs.Prelude.{◌≡◌, ◌+◌, ◌*◌, ◌≤◌, ℕ, Bool, false, List, length, map, unwrap_or, slice_get}
 use Rattle.wf_model.specs.Limits.{max_transitions, max_actions}
 use Rattle.wf_model.specs.declared.ids.EventId.{EventId}
 use Rattle.wf_model.specs.declared.value.Val.{Val}
@@ -8,10 +8,11 @@ use Rattle.wf_model.specs.declared.outer.Entry.{Entry}
 use Rattle.wf_model.specs.Tree.{all_states}
 use Rattle.wf_semantics.specs.Configuration.{is_in}
 use Rattle.wf_semantics.specs.Bits.{tree_of_bits}
+use Rattle.wf_semantics.specs.Effects.{starts_of}
 use Rattle.wf_semantics.specs.Run.{CentralState, fired_in, started_in}
 use Rattle.wf_semantics.specs.Shown.{HasSorts}
 use Rattle.wf_scopes.specs.Tables.{Tables, tables_of}
-use Rattle.wf_activities.specs.Stock.{Stock, AreOf, items_at}
+use Rattle.wf_activities.specs.Stock.{Stock, AreOf, AreStarted, items_at}
 use Rattle.wf_central.specs.declared.notes.StepNotes.{StepNotes}
 
 pub record Kept : Type 0 where
@@ -41,6 +42,11 @@ pub record IsOf (chart : Chart) (kept : Kept) : Type 0 where
   pub stock : AreOf chart kept.items
   pub few : (u : ℕ) → length (items_at kept.items u) ≤ kept.taken * (max_transitions * max_actions)
   pub tables : kept.tables ≡ tables_of chart
+
+-- each item that the step starts which these entries bring has the number of this step
+abbrev pub StartInStep : Chart → (before : Kept) → List Entry → (after : Kept) → Type 0
+StartInStep chart before entries after =
+    AreStarted chart (before.taken + 1) (starts_of chart (fired_in chart (central_of chart before) entries)) before.items after.items
 
 -- what the step does that these entries bring
 abbrev pub notes_of : Chart → CentralState → List Entry → StepNotes

@@ -35,9 +35,9 @@ pub record IsSeen (chart : Chart) (c : CentralState) (entries : List Entry) (sna
   pub configuration : IsConfiguration chart c.configuration
   pub active : snap.active.now ≡ map (λ z. is_in z c.configuration) (all_states chart)
   pub store : snap.store.now ≡ after_entries entries c.store
-  pub counts : snap.counts.now ≡ map (open_now chart c entries) (all_acts chart)
+  pub counts : snap.counts.now ≡ map (open_now chart c.items entries) (all_acts chart)
   pub dones : snap.dones.now ≡ map (done_now chart entries) (all_acts chart)
-  pub events : there ≡ map (is_there c entries) (all_events chart)
+  pub events : there ≡ map (is_there c.raised entries) (all_events chart)
 
 -- the next state, but for its items, and what it starts
 pub record MakesStep (chart : Chart) (c : CentralState) (entries : List Entry) (after : AfterStep) : Type 0 where

@@ -1,13 +1,12 @@
 -- What a step sees, by the lists that are kept.
-use Rattle.std.specs.Prelude.{ℕ, ◌||◌, ◌==◌, Bool, List, Some, slice_get, slice_index, IsOk}
+use Rattle.std.specs.Prelude.{ℕ, ◌==◌, Bool, List, Some, slice_get, slice_index, IsOk}
 use Rattle.std.specs.List.{list_any}
 use Rattle.wf_model.specs.declared.ids.EventId.{EventId}
 use Rattle.wf_model.specs.declared.value.Val.{Val}
-use Rattle.wf_model.specs.declared.outer.Entry.{Entry}
 use Rattle.wf_model.specs.declared.expr.Expr.{Expr}
 use Rattle.wf_model.specs.Seen.{Seen, HasAll, var_sorts}
 use Rattle.wf_model.specs.Sorts.{sort_of}
-use Rattle.wf_semantics.specs.Run.{is_happening}
+use Rattle.wf_semantics.specs.Snapshot.{Snapshot}
 use Rattle.wf_central.specs.Kept.{bit}
 
 -- what expressions read of the states that are in, the values of the variables, and the activities' open items and
@@ -23,6 +22,6 @@ CanBeRead seen e = IsOk (sort_of (var_sorts seen) e) × HasAll seen e
 abbrev pub was_raised : List EventId → ℕ → Bool
 was_raised raised e = list_any (λ r. r.0 == e) raised
 
--- the event was raised in the last step, or happens now
-abbrev pub is_there_by : List EventId → List Entry → ℕ → Bool
-is_there_by raised entries e = was_raised raised e || list_any (λ x. is_happening e x.outer) entries
+-- a snapshot with these values, where these events are there
+abbrev pub seeing : Seen → (ℕ → Bool) → Snapshot
+seeing seen there = record { seen = seen; there = there }

@@ -1,20 +1,18 @@
 //! The passes of a step: which events are there, which transitions are ready, which are chosen, which fire, which states
 //! are in then, and what the fired transitions do besides.
 ghost use Rattle.std.specs.Prelude.{◌≡◌, ◌<◌, ◌||◌, ℕ, Bool, true, false, List as Listed, None, All, map, filter, length, is_some, slice_set, IfOk, IfSome};
-ghost use Rattle.std.specs.List.{list_any};
+ghost use Rattle.std.specs.List.{list_any, range_with_len};
 ghost use Rattle.wf_model.specs.Accepted.{IsAccepted};
-ghost use Rattle.wf_model.specs.Seen.{Seen};
 ghost use Rattle.wf_model.specs.Tree.{all_states, all_transitions, ancestors, all_events};
 ghost use Rattle.wf_model.specs.Ids.{trans_id};
 ghost use Rattle.wf_semantics.specs.Configuration.{Tree};
-ghost use Rattle.wf_semantics.specs.Run.{CentralState, is_happening};
+ghost use Rattle.wf_semantics.specs.Run.{CentralState, is_happening, is_there};
 ghost use Rattle.wf_semantics.specs.Shown.{HasSorts};
 ghost use Rattle.wf_semantics.specs.Snapshot.{has_event, has_guard, is_ready, is_enabled};
 ghost use Rattle.wf_scopes.specs.Tables.{tables_of, ancestor_ids};
-ghost use Rattle.wf_effects.specs.Seeing.{seeing};
 ghost use Rattle.wf_central.specs.Kept.{bit};
 ghost use Rattle.wf_central.specs.Passes.{at, chosen_by, firing_by, fired_by, first_ids, bit_by, moved_by};
-ghost use Rattle.wf_central.specs.Sight.{CanBeRead, was_raised, is_there_by};
+ghost use Rattle.wf_central.specs.Sight.{CanBeRead, was_raised, seeing};
 ghost use Rattle.wf_central.specs.Made.{seen_of, AreBits, MakesWalk, IsSeen, MakesStep};
 
 use crate::snapshot::{StepSnapshot, is_set};
@@ -25,21 +23,6 @@ use wf_model::{
     Chart, Entry, EventId, Expr, List, NoMemory, Outer, StartAt, StateId, TransId, Transition, Val,
 };
 use wf_scopes::Scopes;
-
-fn is_happening(outer: &Outer, e: EventId) -> bool
-    ensures { result ≡ is_happening e.0 outer.now }
-{
-    match outer {
-        Outer::Happen(f) => f.0 == e.0,
-        Outer::Complete { .. } => false,
-    }
-}
-
-fn happens(entries: &[Entry], e: EventId) -> bool
-    ensures { result ≡ list_any (λ x. is_happening e.0 x.outer) entries.now }
-{
-    entries.iter().any(|x| is_happening(&x.outer, e))
-}
 
 // No event, for each event of the chart.
 fn none_there(alloc: Global, chart: &Chart) -> Result<List<bool>, NoMemory>
@@ -71,33 +54,35 @@ fn marked(alloc: Global, chart: &Chart, raised: &[EventId]) -> Result<List<bool>
     Ok(bits)
 }
 
-fn is_there(marked: &[bool], entries: &[Entry], e: EventId) -> bool
-    ensures { result ≡ (bit marked.now e.0 || list_any (λ x. is_happening e.0 x.outer) entries.now) }
+// Marks the event that happens, if this is one.
+fn mark_happening(bits: &mut List<bool>, outer: &Outer)
+    ensures { (f : ℕ → Bool) (n : ℕ) → bits.old ≡ map f (range_with_len 0 n) → bits.new ≡ map (λ e. f e || is_happening e outer.now) (range_with_len 0 n) }
 {
-    is_set(marked, e.0 as usize) || happens(entries, e)
+    match outer {
+        Outer::Happen(event) => mark(bits, event.0 as usize),
+        Outer::Complete { .. } => {}
+    }
 }
 
-/// For each event of the chart, whether it is there: raised in the last step, or happening in these entries. Grows with the
-/// events times the entries.
+/// For each event of the chart, whether it is there: raised in the last step, or happening in these entries. Grows with
+/// the events and the entries.
 pub fn there(
     alloc: Global,
     chart: &Chart,
     raised: &[EventId],
     entries: &[Entry],
 ) -> Result<List<bool>, NoMemory>
-    requires { IsAccepted chart.now }
-    ensures { IfOk result (λ bits. bits ≡ map (is_there_by raised.now entries.now) (all_events chart.now)) }
+    ensures { IfOk result (λ bits. bits ≡ map (is_there raised.now entries.now) (all_events chart.now)) }
 {
-    let marked = marked(alloc, chart, raised)?;
-    let mut bits = List::new(alloc);
-    for e in 0..chart.events.len() {
-        bits.push(is_there(marked.as_slice(), entries, EventId(e as u32)))?;
+    let mut bits = marked(alloc, chart, raised)?;
+    for entry in entries {
+        mark_happening(&mut bits, &entry.outer);
     }
     Ok(bits)
 }
 
 fn has_event(there: &[bool], event: Option<EventId>) -> bool
-    ensures { (seen : Seen) → result ≡ has_event (seeing seen (bit there.now)) event }
+    ensures { result ≡ has_event (bit there.now) event }
 {
     match event {
         Some(e) => is_set(there, e.0 as usize),
@@ -107,7 +92,7 @@ fn has_event(there: &[bool], event: Option<EventId>) -> bool
 
 fn has_guard(snap: &StepSnapshot, guard: &Option<Expr>) -> bool
     requires { IfSome guard.now (CanBeRead (seen_of snap.now)) }
-    ensures { (there : ℕ → Bool) → result ≡ has_guard (seeing (seen_of snap.now) there) guard.now }
+    ensures { result ≡ has_guard (seen_of snap.now) guard.now }
 {
     match guard {
         Some(guard) => matches!(value(guard, snap), Ok(Val::Bool(true))),
@@ -310,7 +295,7 @@ pub fn moved(
 }
 
 /// What the walk makes: the transitions that fired, ascending, and for each state whether it is in then.
-#[derive(Debug, Drop)]
+#[derive(Drop)]
 pub struct AfterWalk {
     pub fired: List<TransId>,
     pub active: List<bool>,
@@ -338,7 +323,7 @@ pub fn walk(
 
 /// What a step makes, but for the items: the transitions that fired, ascending, for each state whether it is in then, the
 /// value of each variable, the raised events, ascending, and the starts, by transition and place.
-#[derive(Debug, Drop)]
+#[derive(Drop)]
 pub struct AfterStep {
     pub fired: List<TransId>,
     pub active: List<bool>,

@@ -7,7 +7,7 @@ ghost use Rattle.wf_semantics.specs.Configuration.{is_in};
 ghost use Rattle.wf_semantics.specs.Run.{first_state, next_state};
 ghost use Rattle.wf_semantics.specs.Admission.{may_be_admitted, may_come};
 ghost use Rattle.wf_semantics.specs.Shown.{HasSorts};
-ghost use Rattle.wf_central.specs.Kept.{central_of, IsOf, notes_of};
+ghost use Rattle.wf_central.specs.Kept.{central_of, IsOf, StartInStep, notes_of};
 ghost use Rattle.wf_central.specs.Made.{MakesStep};
 
 use crate::passes::{self, AfterStep};
@@ -23,7 +23,7 @@ use wf_scopes::{Scopes, default_bits};
 
 /// The state of a chart after so many steps: the states that are in, the values of the variables, the events raised in the
 /// last step, and the items of each unit.
-#[derive(Debug, Drop)]
+#[derive(Drop)]
 pub struct CentralState {
     active: List<bool>,
     store: List<Val>,
@@ -104,14 +104,14 @@ impl CentralState {
         outer: &Outer,
     ) -> Result<(), OuterFault>
         requires { IsOf checked.now self.now }
-        ensures { result ≡ may_be_admitted checked.now (central_of checked.now self.now) pending.now unit.0 outer.now }
+        ensures { result ≡ may_be_admitted checked.now (central_of checked.now self.now).items pending.now unit.0 outer.now }
     {
         self.items.may_admit(checked.chart(), pending, unit, outer)
     }
 
     /// Takes one step, in which these entries come: each of them may be admitted where those before it are pending. Grows with
     /// the states times their depth, the transitions, the nodes of the guards that are looked at and of the assigned values,
-    /// the actions that fire, the variables, the outputs, the events times the entries, the activities, and the units times
+    /// the actions that fire, the variables, the outputs, the events, the entries, the activities, and the units times
     /// the starts times a unit's activities; not with the items. After `NoMemory` the state is as before.
     pub fn step(
         &mut self,
@@ -121,8 +121,9 @@ impl CentralState {
     ) -> Result<StepNotes, NoMemory>
         requires of { IsOf checked.now self.old }
         requires few { self.old.taken < max_steps }
-        requires come { IsTrue (may_come checked.now (central_of checked.now self.old) outer.now) }
+        requires come { IsTrue (may_come checked.now (central_of checked.now self.old).items outer.now) }
         ensures state { OnOk result (central_of checked.now self.new ≡ next_state checked.now (central_of checked.now self.old) outer.now) }
+        ensures steps { OnOk result (StartInStep checked.now self.old outer.now self.new) }
         ensures notes { IfOk result (λ notes. notes ≡ notes_of checked.now (central_of checked.now self.old) outer.now) }
         ensures of { IsOf checked.now self.new }
         ensures taken { OnOk result (self.new.taken ≡ self.old.taken + 1) }
@@ -151,7 +152,7 @@ impl CentralState {
     fn passed(&self, alloc: Global, chart: &Chart, outer: &[Entry]) -> Result<AfterStep, NoMemory>
         requires accepted { IsAccepted chart.now }
         requires of { IsOf chart.now self.now }
-        requires come { IsTrue (may_come chart.now (central_of chart.now self.now) outer.now) }
+        requires come { IsTrue (may_come chart.now (central_of chart.now self.now).items outer.now) }
         ensures step { IfOk result (MakesStep chart.now (central_of chart.now self.now) outer.now) }
         ensures sorts { IfOk result (λ after. HasSorts chart.now after.store) }
     {

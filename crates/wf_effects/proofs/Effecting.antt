@@ -25,7 +25,6 @@ use Rattle.wf_semantics.specs.Shown.{Shows, HasSorts}
 use Rattle.wf_model.proofs.Bools.{and_both}
 use Rattle.wf_semantics.proofs.Lists.{filter_agree, range_mem}
 use Rattle.wf_effects.specs.declared.gathered.Gathered.{Gathered}
-use Rattle.wf_effects.specs.Seeing.{seeing}
 use Rattle.wf_effects.specs.Performing.{nothing_yet, assigned, performed, performed_all, fired_all, events_of}
 use Rattle.wf_effects.proofs.Expressions.{AreActionsOf, actions_are, value_of_action, typed}
 use Rattle.wf_effects.proofs.Performed.{sizes_performed, sizes_performed_all, size_fired, actions_at}
@@ -60,27 +59,27 @@ and_false : (b : Bool) → false ≡ (b && false)
 and_false true = refl
 and_false false = refl
 
-module _ (chart : Chart) (seen : Seen) (there : ℕ → Bool) where
+module _ (chart : Chart) (seen : Seen) where
   -- THE STORE
 
   store_assigned : (x : ℕ) (r : Result Val Fault) (g : Gathered) → (assigned x r g).store ≡ written x r g.store
   store_assigned x (Ok val) g = refl
   store_assigned x (Err fault) g = refl
 
-  store_performed : (t place : ℕ) (a : Action) (g : Gathered) → (performed seen t place a g).store ≡ after_action (seeing seen there) a g.store
+  store_performed : (t place : ℕ) (a : Action) (g : Gathered) → (performed seen t place a g).store ≡ after_action seen a g.store
   store_performed t place (Assign x value) g = store_assigned x.0 (value_of seen value) g
   store_performed t place (Raise e) g = refl
   store_performed t place (Start a) g = refl
 
-  store_all : (t place : ℕ) (acts : List Action) (g : Gathered) → (performed_all seen t place acts g).store ≡ after_actions (seeing seen there) acts g.store
+  store_all : (t place : ℕ) (acts : List Action) (g : Gathered) → (performed_all seen t place acts g).store ≡ after_actions seen acts g.store
   store_all t place [] g = refl
   store_all t place (a ∷ acts) g =
-      store_all t (place + 1) acts (performed seen t place a g) ∙ ap (after_actions (seeing seen there) acts) (store_performed t place a g)
+      store_all t (place + 1) acts (performed seen t place a g) ∙ ap (after_actions seen acts) (store_performed t place a g)
 
-  store_fired : (ts : List ℕ) (g : Gathered) → (fired_all chart seen ts g).store ≡ after_fired chart (seeing seen there) ts g.store
+  store_fired : (ts : List ℕ) (g : Gathered) → (fired_all chart seen ts g).store ≡ after_fired chart seen ts g.store
   store_fired [] g = refl
   store_fired (t ∷ ts) g =
-      store_fired ts (performed_all seen t 0 (actions_of chart t) g) ∙ ap (after_fired chart (seeing seen there) ts) (store_all t 0 (actions_of chart t) g)
+      store_fired ts (performed_all seen t 0 (actions_of chart t) g) ∙ ap (after_fired chart seen ts) (store_all t 0 (actions_of chart t) g)
 
   -- RAISED EVENTS
 
@@ -88,33 +87,31 @@ module _ (chart : Chart) (seen : Seen) (there : ℕ → Bool) where
   bit_assigned x (Ok val) g e lt = or_false (get_or g.raised e false) ∙ ap (λ (b : Bool). get_or g.raised e false || b) (and_false (e == 0))
   bit_assigned x (Err fault) g e lt = bit_set g.raised 0 e lt ∙ ap (λ (b : Bool). get_or g.raised e false || b) (flip e)
 
-  bit_performed : (t place : ℕ) (a : Action) (g : Gathered) (e : ℕ) → e < length g.raised → get_or (performed seen t place a g).raised e false ≡ (get_or g.raised e false || action_raises (seeing seen there) e a)
+  bit_performed : (t place : ℕ) (a : Action) (g : Gathered) (e : ℕ) → e < length g.raised → get_or (performed seen t place a g).raised e false ≡ (get_or g.raised e false || action_raises seen e a)
   bit_performed t place (Assign x value) g e lt = bit_assigned x.0 (value_of seen value) g e lt
   bit_performed t place (Raise f) g e lt = bit_set g.raised f.0 e lt
   bit_performed t place (Start a) g e lt = or_false (get_or g.raised e false)
 
-  bit_all : (t place : ℕ) (acts : List Action) (g : Gathered) (e : ℕ) → e < length g.raised → get_or (performed_all seen t place acts g).raised e false ≡ (get_or g.raised e false || list_any (action_raises (seeing seen there) e) acts)
+  bit_all : (t place : ℕ) (acts : List Action) (g : Gathered) (e : ℕ) → e < length g.raised → get_or (performed_all seen t place acts g).raised e false ≡ (get_or g.raised e false || list_any (action_raises seen e) acts)
   bit_all t place [] g e lt = or_false (get_or g.raised e false)
   bit_all t place (a ∷ acts) g e lt =
-      let snap = seeing seen there in
       let size = (sizes_performed seen t place a g).events in
       bit_all t (place + 1) acts (performed seen t place a g) e (omega arith)
-      ∙ ap (λ (b : Bool). b || list_any (action_raises snap e) acts) (bit_performed t place a g e lt)
-      ∙ or_assoc (get_or g.raised e false) (action_raises snap e a) (list_any (action_raises snap e) acts)
+      ∙ ap (λ (b : Bool). b || list_any (action_raises seen e) acts) (bit_performed t place a g e lt)
+      ∙ or_assoc (get_or g.raised e false) (action_raises seen e a) (list_any (action_raises seen e) acts)
 
-  bit_fired : (ts : List ℕ) (g : Gathered) (e : ℕ) → e < length g.raised → get_or (fired_all chart seen ts g).raised e false ≡ (get_or g.raised e false || list_any (raises chart (seeing seen there) e) ts)
+  bit_fired : (ts : List ℕ) (g : Gathered) (e : ℕ) → e < length g.raised → get_or (fired_all chart seen ts g).raised e false ≡ (get_or g.raised e false || list_any (raises chart seen e) ts)
   bit_fired [] g e lt = or_false (get_or g.raised e false)
   bit_fired (t ∷ ts) g e lt =
-      let snap = seeing seen there in
       let size = (sizes_performed_all seen t 0 (actions_of chart t) g).events in
       bit_fired ts (performed_all seen t 0 (actions_of chart t) g) e (omega arith)
-      ∙ ap (λ (b : Bool). b || list_any (raises chart snap e) ts) (bit_all t 0 (actions_of chart t) g e lt)
-      ∙ or_assoc (get_or g.raised e false) (raises chart snap e t) (list_any (raises chart snap e) ts)
+      ∙ ap (λ (b : Bool). b || list_any (raises chart seen e) ts) (bit_all t 0 (actions_of chart t) g e lt)
+      ∙ or_assoc (get_or g.raised e false) (raises chart seen e t) (list_any (raises chart seen e) ts)
 
-  raised_fired : (ts : List ℕ) (g : Gathered) → g.raised ≡ replicate (length chart.events) false → events_of (fired_all chart seen ts g).raised ≡ raised_by chart (seeing seen there) ts
+  raised_fired : (ts : List ℕ) (g : Gathered) → g.raised ≡ replicate (length chart.events) false → events_of (fired_all chart seen ts g).raised ≡ raised_by chart seen ts
   raised_fired ts g none =
       let bits = (fired_all chart seen ts g).raised in
-      let asks = λ (e : ℕ). list_any (raises chart (seeing seen there) e) ts in
+      let asks = λ (e : ℕ). list_any (raises chart seen e) ts in
       let event : ℕ → EventId = λ e. record { 0 = e } in
       let before : length g.raised ≡ length chart.events = ap length none ∙ length-replicate (length chart.events) false in
       let size = size_fired chart seen ts g none in
@@ -156,12 +153,12 @@ same_sorts (w ∷ vars) (v ∷ store) (suc x) sort val h e q =
     let more = same_sorts vars store x sort val rest e q in
     cc
 
-module _ (chart : Chart) (seen : Seen) (there : ℕ → Bool) (shows : Shows chart seen) where
+module _ (chart : Chart) (seen : Seen) (shows : Shows chart seen) where
   sorts_written : (x : ℕ) (sort : Sort) (r : Result Val Fault) (store : List Val) → var_sort chart x ≡ Some sort → ((val : Val) → r ≡ Ok val → val_sort val ≡ sort) → HasSorts chart store → HasSorts chart (written x r store)
   sorts_written x sort (Ok val) store e q h = same_sorts chart.vars store x sort val h e (q val refl)
   sorts_written x sort (Err fault) store e q h = h
 
-  sorts_action : (acts : List Action) (i : ℕ) (a : Action) (store : List Val) → AreActionsOf chart acts → slice_get acts i ≡ Some a → HasSorts chart store → HasSorts chart (after_action (seeing seen there) a store)
+  sorts_action : (acts : List Action) (i : ℕ) (a : Action) (store : List Val) → AreActionsOf chart acts → slice_get acts i ≡ Some a → HasSorts chart store → HasSorts chart (after_action seen a store)
   sorts_action acts i (Assign x value) store are e h =
       let w = value_of_action chart acts i x value are e in
       sorts_written x.0 w.1 (value_of seen value) store w.2 (λ val q. value_sort seen value w.1 val (typed chart seen value w.1 shows w.3.sorted) q) h
@@ -176,49 +173,49 @@ module _ (chart : Chart) (seen : Seen) (there : ℕ → Bool) (shows : Shows cha
     sorted = (and_both (is_sorted_action chart a) (list_all (is_sorted_action chart) acts) are.sorted).1;
   }
 
-  sorts_actions : (acts : List Action) (store : List Val) → AreActionsOf chart acts → HasSorts chart store → HasSorts chart (after_actions (seeing seen there) acts store)
+  sorts_actions : (acts : List Action) (store : List Val) → AreActionsOf chart acts → HasSorts chart store → HasSorts chart (after_actions seen acts store)
   sorts_actions [] store are h = h
   sorts_actions (a ∷ acts) store are h =
-      sorts_actions acts (after_action (seeing seen there) a store) (rest_are a acts are) (sorts_action (a ∷ acts) 0 a store are refl h)
+      sorts_actions acts (after_action seen a store) (rest_are a acts are) (sorts_action (a ∷ acts) 0 a store are refl h)
 
-  sorts_transition : (t : ℕ) (store : List Val) → IsAccepted chart → HasSorts chart store → HasSorts chart (after_actions (seeing seen there) (actions_of chart t) store)
+  sorts_transition : (t : ℕ) (store : List Val) → IsAccepted chart → HasSorts chart store → HasSorts chart (after_actions seen (actions_of chart t) store)
   sorts_transition t store ok h = go (slice_get chart.transitions t) refl
     where
-      go : (o : Option Transition) → slice_get chart.transitions t ≡ o → HasSorts chart (after_actions (seeing seen there) (actions_of chart t) store)
+      go : (o : Option Transition) → slice_get chart.transitions t ≡ o → HasSorts chart (after_actions seen (actions_of chart t) store)
       go None e =
           let none : actions_of chart t ≡ [] = ap (λ (o : Option Transition). unwrap_or (option_map (λ trans. trans.actions) o) []) e in
-          subst (λ (acts : List Action). HasSorts chart (after_actions (seeing seen there) acts store)) (sym none) h
+          subst (λ (acts : List Action). HasSorts chart (after_actions seen acts store)) (sym none) h
       go (Some trans) e =
-          subst (λ (acts : List Action). HasSorts chart (after_actions (seeing seen there) acts store)) (sym (actions_at chart t trans e))
+          subst (λ (acts : List Action). HasSorts chart (after_actions seen acts store)) (sym (actions_at chart t trans e))
           (sorts_actions trans.actions store (actions_are chart t trans ok e) h)
 
   -- fired transitions leave each variable a value of its sort
-  sorts_fired : (ts : List ℕ) (store : List Val) → IsAccepted chart → HasSorts chart store → HasSorts chart (after_fired chart (seeing seen there) ts store)
+  sorts_fired : (ts : List ℕ) (store : List Val) → IsAccepted chart → HasSorts chart store → HasSorts chart (after_fired chart seen ts store)
   sorts_fired [] store ok h = h
   sorts_fired (t ∷ ts) store ok h =
-      sorts_fired ts (after_actions (seeing seen there) (actions_of chart t) store) ok (sorts_transition t store ok h)
+      sorts_fired ts (after_actions seen (actions_of chart t) store) ok (sorts_transition t store ok h)
 
 -- from what there is first to what there is after the fired transitions
 module _ (chart : Chart) (seen : Seen) (fired : List ℕ) (store : List Val) (g h : Gathered) (first : g ≡ nothing_yet store (length chart.events)) (last : h ≡ fired_all chart seen fired g) where
   none_first : g.raised ≡ replicate (length chart.events) false
   none_first = ap (λ (x : Gathered). x.raised) first
 
-  pub store_is : (there : ℕ → Bool) → h.store ≡ after_fired chart (seeing seen there) fired store
-  store_is there =
-      ap (λ (x : Gathered). x.store) last ∙ store_fired chart seen there fired g
-      ∙ ap (λ (x : Gathered). after_fired chart (seeing seen there) fired x.store) first
+  pub store_is : h.store ≡ after_fired chart seen fired store
+  store_is =
+      ap (λ (x : Gathered). x.store) last ∙ store_fired chart seen fired g
+      ∙ ap (λ (x : Gathered). after_fired chart seen fired x.store) first
 
-  pub raised_is : (there : ℕ → Bool) → events_of h.raised ≡ raised_by chart (seeing seen there) fired
-  raised_is there = ap (λ (x : Gathered). events_of x.raised) last ∙ raised_fired chart seen there fired g none_first
+  pub raised_is : events_of h.raised ≡ raised_by chart seen fired
+  raised_is = ap (λ (x : Gathered). events_of x.raised) last ∙ raised_fired chart seen fired g none_first
 
   pub raised_size : length h.raised ≡ length chart.events
   raised_size = ap (λ (x : Gathered). length x.raised) last ∙ size_fired chart seen fired g none_first
 
   pub starts_is : h.starts ≡ starts_of chart fired
   starts_is =
-      ap (λ (x : Gathered). x.starts) last ∙ starts_fired chart seen (λ e. false) fired g
+      ap (λ (x : Gathered). x.starts) last ∙ starts_fired chart seen fired g
       ∙ ap (λ (x : Gathered). x.starts ++ starts_of chart fired) first
 
   pub sorts_is : Shows chart seen → IsAccepted chart → HasSorts chart store → HasSorts chart h.store
   sorts_is shows ok h =
-      subst (HasSorts chart) (sym (store_is (λ e. false))) (sorts_fired chart seen (λ e. false) shows fired store ok h)
+      subst (HasSorts chart) (sym store_is) (sorts_fired chart seen shows fired store ok h)

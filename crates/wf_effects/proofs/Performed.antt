@@ -18,7 +18,7 @@ use Rattle.wf_semantics.specs.Effects.{actions_of}
 use Rattle.wf_semantics.specs.Shown.{Shows}
 use Rattle.wf_model.proofs.Items.{all_at}
 use Rattle.wf_effects.specs.declared.gathered.Gathered.{Gathered}
-use Rattle.wf_effects.specs.Seeing.{numbers}
+use Rattle.wf_effects.specs.Numbers.{numbers}
 use Rattle.wf_effects.specs.Performing.{assigned, performed, performed_all, fired_all, CanPerform}
 use Rattle.wf_effects.proofs.Expressions.{AreActionsOf, value_of_action, can_read}
 

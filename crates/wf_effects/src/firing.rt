@@ -1,9 +1,9 @@
 //! The actions of the fired transitions.
-ghost use Rattle.std.specs.Prelude.{◌≡◌, ◌<◌, ℕ, Bool, length, All, IfOk};
+ghost use Rattle.std.specs.Prelude.{◌≡◌, ◌<◌, length, All, IfOk};
 ghost use Rattle.wf_model.specs.Accepted.{IsAccepted};
 ghost use Rattle.wf_semantics.specs.Effects.{after_fired, raised_by, starts_of};
 ghost use Rattle.wf_semantics.specs.Shown.{Shows, HasSorts};
-ghost use Rattle.wf_effects.specs.Seeing.{seeing, numbers};
+ghost use Rattle.wf_effects.specs.Numbers.{numbers};
 
 use crate::Effects;
 use crate::gathered::Gathered;
@@ -30,8 +30,8 @@ pub fn effects<S: Snapshot>(
     requires shows { Shows chart.now (S.seen snap.now) }
     requires sorts { HasSorts chart.now store.now }
     requires known { All (λ t. t.0 < length chart.now.transitions) fired.now }
-    ensures store { (there : ℕ → Bool) → IfOk result (λ e. e.store ≡ after_fired chart.now (seeing (S.seen snap.now) there) (numbers fired.now) store.now) }
-    ensures raised { (there : ℕ → Bool) → IfOk result (λ e. e.raised ≡ raised_by chart.now (seeing (S.seen snap.now) there) (numbers fired.now)) }
+    ensures store { IfOk result (λ e. e.store ≡ after_fired chart.now (S.seen snap.now) (numbers fired.now) store.now) }
+    ensures raised { IfOk result (λ e. e.raised ≡ raised_by chart.now (S.seen snap.now) (numbers fired.now)) }
     ensures starts { IfOk result (λ e. e.starts ≡ starts_of chart.now (numbers fired.now)) }
     ensures sorts { IfOk result (λ e. HasSorts chart.now e.store) }
 {

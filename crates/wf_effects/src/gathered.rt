@@ -4,7 +4,7 @@ ghost use Rattle.wf_model.specs.Accepted.{IsAccepted};
 ghost use Rattle.wf_semantics.specs.Effects.{actions_of};
 ghost use Rattle.wf_semantics.specs.Shown.{Shows};
 ghost use Rattle.wf_effects.specs.Performing.{nothing_yet, performed, performed_all, fired_all, CanPerform};
-ghost use Rattle.wf_effects.specs.Seeing.{numbers};
+ghost use Rattle.wf_effects.specs.Numbers.{numbers};
 
 use std::alloc::Global;
 use wf_expr::{Snapshot, value};

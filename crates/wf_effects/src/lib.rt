@@ -5,8 +5,6 @@ mod firing;
 mod gathered;
 mod outcome;
 mod raised;
-#[cfg(test)]
-mod tests;
 
 pub use firing::effects;
 pub use outcome::Effects;

@@ -2,7 +2,7 @@
 use wf_model::{EventId, List, StartAt, Val};
 
 /// What fired transitions do beside moving.
-#[derive(Debug, Drop)]
+#[derive(Drop)]
 pub struct Effects {
     /// The value of each variable afterwards, in order.
     pub store: List<Val>,

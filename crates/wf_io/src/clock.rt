@@ -15,7 +15,7 @@ pub trait Clock {
 }
 
 /// A clock that gives the moments of a list in order, and then the last one again and again.
-#[derive(Debug, Drop)]
+#[derive(Drop)]
 pub struct ScriptClock {
     moments: List<i64>,
     at: usize,

@@ -6,8 +6,6 @@ mod clock;
 mod memory;
 mod stream;
 mod system;
-#[cfg(test)]
-mod tests;
 mod whole;
 
 pub use clock::{Clock, ScriptClock};

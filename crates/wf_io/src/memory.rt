@@ -11,7 +11,7 @@ use std::marker::Model;
 use wf_model::{Bytes, Failed, List};
 
 /// Bytes in memory to be read, of which each call gives at most a piece.
-#[derive(Debug, Drop)]
+#[derive(Drop)]
 pub struct MemSource {
     bytes: Bytes,
     at: usize,
@@ -96,7 +96,7 @@ impl Source for MemSource {
 }
 
 /// Bytes in memory that were written, of which each call took at most a piece.
-#[derive(Debug, Drop)]
+#[derive(Drop)]
 pub struct MemSink {
     bytes: Bytes,
     piece: u32,

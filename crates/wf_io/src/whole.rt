@@ -13,7 +13,7 @@ use wf_model::{Bytes, Failed, List, NoMemory};
 const PIECE: usize = 4096;
 
 /// Why not all bytes were read.
-#[derive(Clone, Copy, Debug, PartialEq, Eq, Error)]
+#[derive(Clone, Copy, Debug, Error)]
 pub enum InFault {
     /// The source failed.
     #[error("the source failed")]

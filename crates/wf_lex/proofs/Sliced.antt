@@ -102,41 +102,41 @@ token_first at b n bs more kind start end first last fits token behind =
     ([], b ∷ take n bs, drop n bs, ap (λ r. b ∷ r) (sym whole), refl, omega (arith, first), omega (arith, first, last, long), rw (whole, long) token, rw last behind)
 
 -- a token begins here
-at_token : (len count at b : ℕ) (bs : List ℕ) (ts : List Token) (found : Option (TokenKind × ℕ)) → at ≡ place len (b ∷ bs) → token_at b bs ≡ found
-    → ((n : ℕ) (more : List Token) → lex len (count + 1) n false bs ≡ Ok more → AreSlices false (at + 1 + n) (drop n bs) more)
-    → lex_token len count b bs found (λ n. lex len (count + 1) n false bs) ≡ Ok ts → AreSlices false at (b ∷ bs) ts
-at_token len count at b bs ts None here token behind e = cc e
-at_token len count at b bs ts (Some (kind, n)) here token behind e =
-    elim (cases_Bool (count == max_tokens)) [
+at_token : (most len count at b : ℕ) (bs : List ℕ) (ts : List Token) (found : Option (TokenKind × ℕ)) → at ≡ place len (b ∷ bs) → token_at b bs ≡ found
+    → ((n : ℕ) (more : List Token) → lex most len (count + 1) n false bs ≡ Ok more → AreSlices false (at + 1 + n) (drop n bs) more)
+    → lex_token most len count b bs found (λ n. lex most len (count + 1) n false bs) ≡ Ok ts → AreSlices false at (b ∷ bs) ts
+at_token most len count at b bs ts None here token behind e = cc e
+at_token most len count at b bs ts (Some (kind, n)) here token behind e =
+    elim (cases_Bool (count == most)) [
       | inl full ↦ cc (rw full at e)
       | inr few ↦
-          let split = with_first_ok (record { kind = kind; start = place len (b ∷ bs); end = place len (b ∷ bs) + 1 + n } ∷ []) ts (lex len (count + 1) n false bs) (rw few at e) in
+          let split = with_first_ok (record { kind = kind; start = place len (b ∷ bs); end = place len (b ∷ bs) + 1 + n } ∷ []) ts (lex most len (count + 1) n false bs) (rw few at e) in
           subst (λ xs. AreSlices false at (b ∷ bs) xs) (sym split.2)
           (token_first at b n bs split.0 kind (place len (b ∷ bs)) (place len (b ∷ bs) + 1 + n) (sym here) (omega (arith, here)) (token_within b bs kind n token) token
           (behind n split.0 split.1))
     ]
 
 -- from any place on
-sliced : (len count n : ℕ) (comment : Bool) (bs : List ℕ) (ts : List Token) → length bs ≤ len → lex len count n comment bs ≡ Ok ts → AreSlices comment (place len bs + n) (drop n bs) ts
-sliced len count zero comment [] ts fits e = let none : [] ≡ ts = cc e in subst (λ xs. AreSlices comment (place len [] + 0) [] xs) none refl
-sliced len count (suc n) comment [] ts fits e = let none : [] ≡ ts = cc e in subst (λ xs. AreSlices comment (place len [] + suc n) [] xs) none refl
-sliced len count (suc n) comment (b ∷ bs) ts fits e =
+sliced : (most len count n : ℕ) (comment : Bool) (bs : List ℕ) (ts : List Token) → length bs ≤ len → lex most len count n comment bs ≡ Ok ts → AreSlices comment (place len bs + n) (drop n bs) ts
+sliced most len count zero comment [] ts fits e = let none : [] ≡ ts = cc e in subst (λ xs. AreSlices comment (place len [] + 0) [] xs) none refl
+sliced most len count (suc n) comment [] ts fits e = let none : [] ≡ ts = cc e in subst (λ xs. AreSlices comment (place len [] + suc n) [] xs) none refl
+sliced most len count (suc n) comment (b ∷ bs) ts fits e =
     let short : length bs ≤ len = omega arith in
     let here : place len bs + n ≡ place len (b ∷ bs) + suc n = omega arith in
-    rw (← here) (sliced len count n comment bs ts short e)
-sliced len count zero true (b ∷ bs) ts fits e =
+    rw (← here) (sliced most len count n comment bs ts short e)
+sliced most len count zero true (b ∷ bs) ts fits e =
     let short : length bs ≤ len = omega arith in
     let here : place len bs + 0 ≡ place len (b ∷ bs) + 0 + 1 = omega arith in
-    one_byte true (not (b == 10)) (place len (b ∷ bs) + 0) b bs ts (λ at_end gap. refl) (rw (← here) (sliced len count zero (not (b == 10)) bs ts short e))
-sliced len count zero false (b ∷ bs) ts fits e =
+    one_byte true (not (b == 10)) (place len (b ∷ bs) + 0) b bs ts (λ at_end gap. refl) (rw (← here) (sliced most len count zero (not (b == 10)) bs ts short e))
+sliced most len count zero false (b ∷ bs) ts fits e =
     let short : length bs ≤ len = omega arith in
     let here : place len bs + 0 ≡ place len (b ∷ bs) + 0 + 1 = omega arith in
     elim (cases_Bool (is_blank b)) [
-      | inl blank ↦ one_byte false false (place len (b ∷ bs) + 0) b bs ts (λ at_end gap. rw blank refl) (rw (← here) (sliced len count zero false bs ts short (rw blank at e)))
+      | inl blank ↦ one_byte false false (place len (b ∷ bs) + 0) b bs ts (λ at_end gap. rw blank refl) (rw (← here) (sliced most len count zero false bs ts short (rw blank at e)))
       | inr ink ↦ elim (cases_Bool (b == 35)) [
-        | inl hash ↦ one_byte false true (place len (b ∷ bs) + 0) b bs ts (λ at_end gap. rw (ink, hash) refl) (rw (← here) (sliced len count zero true bs ts short (rw (ink, hash) at e)))
-        | inr no_hash ↦ at_token len count (place len (b ∷ bs) + 0) b bs ts (token_at b bs) (omega arith) refl
-            (λ n more f. let there : place len bs + n ≡ place len (b ∷ bs) + 0 + 1 + n = omega arith in rw (← there) (sliced len (count + 1) n false bs more short f))
+        | inl hash ↦ one_byte false true (place len (b ∷ bs) + 0) b bs ts (λ at_end gap. rw (ink, hash) refl) (rw (← here) (sliced most len count zero true bs ts short (rw (ink, hash) at e)))
+        | inr no_hash ↦ at_token most len count (place len (b ∷ bs) + 0) b bs ts (token_at b bs) (omega arith) refl
+            (λ n more f. let there : place len bs + n ≡ place len (b ∷ bs) + 0 + 1 + n = omega arith in rw (← there) (sliced most len (count + 1) n false bs more short f))
             (rw (ink, no_hash) at e)
       ]
     ]
@@ -146,4 +146,4 @@ pub tokens_sliced : (text : List ℕ) (ts : List Token) → tokens_of text ≡ O
 unfolding tokens_of
 tokens_sliced text ts e =
     let start : place (length text) text + 0 ≡ 0 = omega arith in
-    rw (← start) (sliced (length text) 0 0 false text ts (omega arith) e)
+    rw (← start) (sliced max_tokens (length text) 0 0 false text ts (omega arith) e)

@@ -54,23 +54,31 @@ with_first found (Ok more) = Ok (found ++ more)
 with_first found (Err e) = Err e
 
 -- one token and more behind it, or the fault where none begins or where there are too many
-abbrev pub lex_token : (len count : ℕ) → ℕ → List ℕ → Option (TokenKind × ℕ) → (ℕ → Result (List Token) LexFault) → Result (List Token) LexFault
-lex_token len count b bs None more = Err (BadByte (place len (b ∷ bs)))
-lex_token len count b bs (Some t) more =
-    if count == max_tokens then Err (TooManyTokens (place len (b ∷ bs)))
+abbrev pub lex_token : (most len count : ℕ) → ℕ → List ℕ → Option (TokenKind × ℕ) → (ℕ → Result (List Token) LexFault) → Result (List Token) LexFault
+lex_token most len count b bs None more = Err (BadByte (place len (b ∷ bs)))
+lex_token most len count b bs (Some t) more =
+    if count == most then Err (TooManyTokens (place len (b ∷ bs)))
     else with_first (record { kind = t.0; start = place len (b ∷ bs); end = place len (b ∷ bs) + 1 + t.1 } ∷ []) (more t.1)
 
--- The tokens of a text of length len from here on: after so many tokens, with so many bytes left of the token that was begun,
--- inside a comment or not, the bytes that follow. A comment begins with `#` and ends with LF.
-abbrev pub lex : (len count inside : ℕ) → Bool → List ℕ → Result (List Token) LexFault
-lex len count inside comment [] = Ok []
-lex len count (suc n) comment (b ∷ bs) = lex len count n comment bs
-lex len count zero true (b ∷ bs) = lex len count zero (not (b == 10)) bs
-lex len count zero false (b ∷ bs) =
-    if is_blank b then lex len count zero false bs
-    else (if b == 35 then lex len count zero true bs
-    else lex_token len count b bs (token_at b bs) (λ n. lex len (count + 1) n false bs))
+-- The tokens, of which there may be so many, of a text of length len from here on: after so many tokens, with so many bytes left of
+-- the token that was begun, inside a comment or not, the bytes that follow. A comment begins with `#` and ends with LF.
+abbrev pub lex : (most len count inside : ℕ) → Bool → List ℕ → Result (List Token) LexFault
+lex most len count inside comment [] = Ok []
+lex most len count (suc n) comment (b ∷ bs) = lex most len count n comment bs
+lex most len count zero true (b ∷ bs) = lex most len count zero (not (b == 10)) bs
+lex most len count zero false (b ∷ bs) =
+    if is_blank b then lex most len count zero false bs
+    else (if b == 35 then lex most len count zero true bs
+    else lex_token most len count b bs (token_at b bs) (λ n. lex most len (count + 1) n false bs))
 
--- the tokens of a text, or its first fault
+-- the tokens of a text, or its first fault, where it may have so many
+unfoldable pub tokens_up_to : ℕ → List ℕ → Result (List Token) LexFault
+tokens_up_to most text = lex most (length text) 0 0 false text
+
+-- the tokens of a chart's text, or its first fault
 unfoldable pub tokens_of : List ℕ → Result (List Token) LexFault
-tokens_of text = lex (length text) 0 0 false text
+tokens_of text = lex max_tokens (length text) 0 0 false text
+
+-- the tokens of a line, or its first fault. It may have as many as it has bytes, and so never has too many
+unfoldable pub line_tokens_of : List ℕ → Result (List Token) LexFault
+line_tokens_of line = lex (length line) (length line) 0 0 false line

@@ -83,13 +83,12 @@ fn token_at(first: u8, bytes: &[u8]) -> Option<(TokenKind, usize)>
     }
 }
 
-/// The tokens of the text, or its first fault: the byte that starts no token or the token above the limit,
-/// whichever stands first. In time and memory linear in the text.
-#[tactic(auto, unfolding(crate::specs::Lex::tokens_of))]
-pub fn tokens(alloc: Global, text: &[u8]) -> Result<List<Token>, LexFault>
+// The tokens of the text, of which it may have so many, or its first fault.
+#[tactic(auto, unfolding(crate::specs::Lex::tokens_up_to))]
+fn tokens_up_to(alloc: Global, text: &[u8], most: usize) -> Result<List<Token>, LexFault>
     requires { length text.now ≤ max_input }
-    ensures exact { Gives LexFault.NoMemory result (spec.tokens_of text.now) }
-    ensures few { IfOk result (λ found. length found ≤ max_tokens) }
+    ensures exact { Gives LexFault.NoMemory result (spec.tokens_up_to most text.now) }
+    ensures few { IfOk result (λ found. length found ≤ most) }
 {
     let mut found = Vec::new(alloc);
     let mut at = 0;
@@ -108,7 +107,7 @@ pub fn tokens(alloc: Global, text: &[u8]) -> Result<List<Token>, LexFault>
             let Some((kind, rest)) = token_at(byte, &text[at + 1..]) else {
                 return Err(LexFault::BadByte { at: at as u32 });
             };
-            if found.len() == MAX_TOKENS {
+            if found.len() == most {
                 return Err(LexFault::TooManyTokens { at: at as u32 });
             }
             let end = at + 1 + rest;
@@ -121,4 +120,25 @@ pub fn tokens(alloc: Global, text: &[u8]) -> Result<List<Token>, LexFault>
         }
     }
     Ok(List::from_vec(found))
+}
+
+/// The tokens of a chart's text, or its first fault: the byte that starts no token or the token above the limit,
+/// whichever stands first. In time and memory linear in the text.
+#[tactic(auto, unfolding(crate::specs::Lex::tokens_of, crate::specs::Lex::tokens_up_to))]
+pub fn tokens(alloc: Global, text: &[u8]) -> Result<List<Token>, LexFault>
+    requires { length text.now ≤ max_input }
+    ensures exact { Gives LexFault.NoMemory result (spec.tokens_of text.now) }
+    ensures few { IfOk result (λ found. length found ≤ max_tokens) }
+{
+    tokens_up_to(alloc, text, MAX_TOKENS)
+}
+
+/// The tokens of a line, however many, or its first fault: the byte that starts no token. In time and memory linear in
+/// the line.
+#[tactic(auto, unfolding(crate::specs::Lex::line_tokens_of, crate::specs::Lex::tokens_up_to))]
+pub fn line_tokens(alloc: Global, line: &[u8]) -> Result<List<Token>, LexFault>
+    requires { length line.now ≤ max_input }
+    ensures { Gives LexFault.NoMemory result (spec.line_tokens_of line.now) }
+{
+    tokens_up_to(alloc, line, line.len())
 }

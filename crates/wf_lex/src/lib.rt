@@ -5,6 +5,6 @@ mod laws;
 mod lex;
 mod token;
 
-pub use laws::tokens_are_slices;
-pub use lex::tokens;
+pub use laws::{lines_have_no_limit, tokens_are_slices};
+pub use lex::{line_tokens, tokens};
 pub use token::{LexFault, Token, TokenKind};

@@ -21,33 +21,3 @@ pub const SIDES_SCRIPT: &str = "---\nouter a event e\nstep\nouter a event f\nste
 
 pub const SIDES_TEXT: &str =
     "1: ok\n2: step 1 fired t0 starts\n3: ok\n4: step 2 fired t1 starts\n5: after 2 in R A B B1 C C2 vars raised\n";
-
-/// An activity that gives a variable.
-pub const JOB: &str = "# JOB
-chart job; unit a; event e at a; var x : int = 0;
-activity work at a gives x;
-or R at a { basic S at a; basic T at a; basic U at a; }
-from S to T on e do start work;
-from T to U if done(work) and x = -3 do x := x + 1;
-";
-
-pub const JOB_SCRIPT: &str = "---
-outer a event e
-step
-outer a done work 1
-outer a done work 1 gives x = -3
-outer a done work 01 gives x = -3
-step
-show
-outer a done work 1 gives x = -3
-";
-
-pub const JOB_TEXT: &str = "1: ok
-2: step 1 fired t0 starts work#1
-3: wrong output
-4: ok
-5: already done
-6: step 2 fired t1 starts
-7: after 2 in R U vars x=-2 raised
-8: already done
-";

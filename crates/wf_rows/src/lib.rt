@@ -1,11 +1,9 @@
-//! Worked inputs over the top call, with ends in memory: what each run writes, and how it ends.
+//! Worked inputs over the top call, with ends in memory that fail: what each run writes, and how it ends.
 #![tactic(auto)]
 
 #[cfg(test)]
 mod faults;
 #[cfg(test)]
 mod inputs;
-#[cfg(test)]
-mod rows;
 #[cfg(test)]
 mod run;

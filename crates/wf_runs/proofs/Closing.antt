@@ -101,14 +101,14 @@ new_is_open items starts (suc n) = open_when_new items starts n
 module _ (chart : Chart) where
   -- where these entries came, an item is closed that was closed, or that is there and that an entry completes
   pub closed_now : (c : CentralState) (entries : List Entry) (u n : ℕ) →
-      is_closed (item_at (items_closed c entries u) n) ≡ (is_closed (item_at (c.items u) n) || (is_some (item_at (c.items u) n) && is_pending entries u n))
+      is_closed (item_at (items_closed c.items entries u) n) ≡ (is_closed (item_at (c.items u) n) || (is_some (item_at (c.items u) n) && is_pending entries u n))
   closed_now c entries u n =
       closed_by_all (completions_at u entries) (c.items u) n
       ∙ ap (λ (b : Bool). is_closed (item_at (c.items u) n) || (is_some (item_at (c.items u) n) && b)) (completions_pending u n entries)
 
-  pub closed_next : (c : CentralState) (entries : List Entry) (u n : ℕ) → is_closed (item_at ((next_state chart c entries).items u) n) ≡ is_closed (item_at (items_closed c entries u) n)
+  pub closed_next : (c : CentralState) (entries : List Entry) (u n : ℕ) → is_closed (item_at ((next_state chart c entries).items u) n) ≡ is_closed (item_at (items_closed c.items entries u) n)
   unfolding next_state
-  closed_next c entries u n = new_is_open (items_closed c entries u) (filter (is_at chart u) (starts_of chart (fired_in chart c entries))) n
+  closed_next c entries u n = new_is_open (items_closed c.items entries u) (filter (is_at chart u) (starts_of chart (fired_in chart c entries))) n
 
   pub closed_for_good : (c : CentralState) (steps : List (List Entry)) (u n : ℕ) → is_closed (item_at (c.items u) n) ≡ true → is_closed (item_at ((after_steps chart c steps).items u) n) ≡ true
   closed_for_good c [] u n h = h

@@ -35,7 +35,7 @@ passes false of closed pending fit h = absurd (true≢false (sym h))
 
 module _ (chart : Chart) (c : CentralState) where
   -- an item whose completion is admitted is there, and neither closed nor completed by a pending entry
-  pub admitted : (pending : List Entry) (u n : ℕ) (a : ActId) (outputs : List Output) → is_ok (may_be_admitted chart c pending u (Complete n a outputs)) ≡ true →
+  pub admitted : (pending : List Entry) (u n : ℕ) (a : ActId) (outputs : List Output) → is_ok (may_be_admitted chart c.items pending u (Complete n a outputs)) ≡ true →
       (is_of a.0 (item_at (c.items u) n) ≡ true) × (is_closed (item_at (c.items u) n) ≡ false) × (is_pending pending u n ≡ false)
   unfolding may_be_admitted
   admitted pending u n a outputs h =
@@ -46,27 +46,27 @@ module _ (chart : Chart) (c : CentralState) where
   is_there a (Some x) h = refl
 
   -- the same of an entry that completes the item
-  admitted_entry : (pending : List Entry) (u v n : ℕ) (outer : Outer) → is_ok (may_be_admitted chart c pending v outer) ≡ true → ((v == u) && completes n outer) ≡ true →
+  admitted_entry : (pending : List Entry) (u v n : ℕ) (outer : Outer) → is_ok (may_be_admitted chart c.items pending v outer) ≡ true → ((v == u) && completes n outer) ≡ true →
       (is_some (item_at (c.items u) n) ≡ true) × (is_closed (item_at (c.items u) n) ≡ false) × (is_pending pending u n ≡ false)
   admitted_entry pending u v n (Happen e) h k = absurd (true≢false (sym (and_both (v == u) false k).1))
   admitted_entry pending u v n (Complete item a outputs) h k =
       let same = and_both (v == u) (item == n) k in
       let r = admitted pending u n a outputs
-      (sym (ap₂ (λ (w m : ℕ). is_ok (may_be_admitted chart c pending w (Complete m a outputs))) (eqb-true v u same.0) (eqb-true item n same.1)) ∙ h) in
+      (sym (ap₂ (λ (w m : ℕ). is_ok (may_be_admitted chart c.items pending w (Complete m a outputs))) (eqb-true v u same.0) (eqb-true item n same.1)) ∙ h) in
       (is_there a.0 (item_at (c.items u) n) r.0, r.1, r.2)
 
   -- an item that entries complete, which may come, is there
-  pub completed_is_there : (pending entries : List Entry) (u n : ℕ) → may_come_after chart c pending entries ≡ true → is_pending entries u n ≡ true → is_some (item_at (c.items u) n) ≡ true
+  pub completed_is_there : (pending entries : List Entry) (u n : ℕ) → may_come_after chart c.items pending entries ≡ true → is_pending entries u n ≡ true → is_some (item_at (c.items u) n) ≡ true
   completed_is_there pending [] u n h k = absurd (true≢false (sym k))
   completed_is_there pending (x ∷ xs) u n h k =
-      let both = and_both (is_ok (may_be_admitted chart c pending x.unit.0 x.outer)) (may_come_after chart c (pending ++ x ∷ []) xs) h in
+      let both = and_both (is_ok (may_be_admitted chart c.items pending x.unit.0 x.outer)) (may_come_after chart c.items (pending ++ x ∷ []) xs) h in
       elim (or_cases ((x.unit.0 == u) && completes n x.outer) (is_pending xs u n) k) [
         | inl p ↦ (admitted_entry pending u x.unit.0 n x.outer both.0 p).0
         | inr r ↦ completed_is_there (pending ++ x ∷ []) xs u n both.1 r
       ]
 
   -- of entries that may come, one at most completes an item, and none where it is closed or a pending entry completes it
-  pub one_completion : (pending entries : List Entry) (u n : ℕ) → may_come_after chart c pending entries ≡ true →
+  pub one_completion : (pending entries : List Entry) (u n : ℕ) → may_come_after chart c.items pending entries ≡ true →
       length (completing u n entries) + one (is_closed (item_at (c.items u) n) || is_pending pending u n) ≤ 1
   one_completion pending [] u n h = few (is_closed (item_at (c.items u) n) || is_pending pending u n)
     where
@@ -74,7 +74,7 @@ module _ (chart : Chart) (c : CentralState) where
       few true = omega arith
       few false = omega arith
   one_completion pending (x ∷ xs) u n h =
-      let both = and_both (is_ok (may_be_admitted chart c pending x.unit.0 x.outer)) (may_come_after chart c (pending ++ x ∷ []) xs) h in
+      let both = and_both (is_ok (may_be_admitted chart c.items pending x.unit.0 x.outer)) (may_come_after chart c.items (pending ++ x ∷ []) xs) h in
       go ((x.unit.0 == u) && completes n x.outer) refl both.0
       (subst (λ (b : Bool). length (completing u n xs) + one (is_closed (item_at (c.items u) n) || b) ≤ 1)
       (list_any-append (λ y. (y.unit.0 == u) && completes n y.outer) pending (x ∷ [])) (one_completion (pending ++ x ∷ []) xs u n both.1))
@@ -89,7 +89,7 @@ module _ (chart : Chart) (c : CentralState) where
       less false true k r = r
       less false false k r = r
 
-      go : (b : Bool) → ((x.unit.0 == u) && completes n x.outer) ≡ b → is_ok (may_be_admitted chart c pending x.unit.0 x.outer) ≡ true →
+      go : (b : Bool) → ((x.unit.0 == u) && completes n x.outer) ≡ b → is_ok (may_be_admitted chart c.items pending x.unit.0 x.outer) ≡ true →
           length (completing u n xs) + one (is_closed (item_at (c.items u) n) || (is_pending pending u n || (b || false))) ≤ 1 →
           length (cond b (x ∷ completing u n xs) (completing u n xs)) + one (is_closed (item_at (c.items u) n) || is_pending pending u n) ≤ 1
       go true e ok r =
@@ -108,8 +108,8 @@ none_completing u n (x ∷ xs) h = go ((x.unit.0 == u) && completes n x.outer) h
 
 module _ (chart : Chart) where
   -- after entries that may come, an item is closed that was, or that one of them completes
-  pub closed_by_entries : (c : CentralState) (entries : List Entry) (u n : ℕ) → may_come chart c entries ≡ true →
-      is_closed (item_at (items_closed c entries u) n) ≡ (is_closed (item_at (c.items u) n) || is_pending entries u n)
+  pub closed_by_entries : (c : CentralState) (entries : List Entry) (u n : ℕ) → may_come chart c.items entries ≡ true →
+      is_closed (item_at (items_closed c.items entries u) n) ≡ (is_closed (item_at (c.items u) n) || is_pending entries u n)
   closed_by_entries c entries u n h =
       closed_now chart c entries u n
       ∙ ap (λ (b : Bool). is_closed (item_at (c.items u) n) || b) (go (is_some (item_at (c.items u) n)) (is_pending entries u n) (completed_is_there chart c [] entries u n h))
@@ -145,9 +145,9 @@ module _ (chart : Chart) where
   closed_is_completed steps u n h = closed_along (first_state chart) steps u n h ∙ ap (λ (b : Bool). b || is_completed steps u n) (none_first u n)
 
   pub no_second_completion : (steps : List (List Entry)) (pending : List Entry) (u n : ℕ) (a : ActId) (outputs : List Output) → IsRun chart steps →
-      (is_completed steps u n || is_pending pending u n) ≡ true → is_ok (may_be_admitted chart (central_run chart steps) pending u (Complete n a outputs)) ≡ false
+      (is_completed steps u n || is_pending pending u n) ≡ true → is_ok (may_be_admitted chart (central_run chart steps).items pending u (Complete n a outputs)) ≡ false
   no_second_completion steps pending u n a outputs run h =
-      not_true (is_ok (may_be_admitted chart (central_run chart steps) pending u (Complete n a outputs)))
+      not_true (is_ok (may_be_admitted chart (central_run chart steps).items pending u (Complete n a outputs)))
       (λ ok. let w = admitted chart (central_run chart steps) pending u n a outputs ok in
       true≢false (sym h ∙ ap₂ (λ (p q : Bool). p || q) (sym (closed_is_completed steps u n run) ∙ w.1) w.2))
 

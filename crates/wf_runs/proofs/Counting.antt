@@ -35,22 +35,22 @@ start_of : (a : ℕ) (o : Option StartIn) → option_map_or (λ (b : ActId). b.0
 start_of a None = refl
 start_of a (Some s) = refl
 
-module _ (chart : Chart) (steps : List (List Entry)) (entries : List Entry) (run : IsRun chart steps) (come : may_come chart (central_run chart steps) entries ≡ true) (a : ℕ) where
+module _ (chart : Chart) (steps : List (List Entry)) (entries : List Entry) (run : IsRun chart steps) (come : may_come chart (central_run chart steps).items entries ≡ true) (a : ℕ) where
   module _ (u : ℕ) where
     now : List Item
-    now = items_closed (central_run chart steps) entries u
+    now = items_closed (central_run chart steps).items entries u
 
-    now_acts : acts (items_closed (central_run chart steps) entries u) ≡ acts_started (all_starts chart u steps)
+    now_acts : acts (items_closed (central_run chart steps).items entries u) ≡ acts_started (all_starts chart u steps)
     now_acts = closing_keeps_acts (completions_at u entries) ((central_run chart steps).items u) ∙ acts_of_run chart u steps
 
     abbrev is_open_number : ℕ → Bool
     is_open_number n = is_start_of a (start_at (all_starts chart u steps) n) && not (is_completed steps u n || is_pending entries u n)
 
-    open_by_number : (i : ℕ) (x : Item) → slice_get (items_closed (central_run chart steps) entries u) i ≡ Some x → ((x.act.0 == a) && not x.closed) ≡ is_open_number (suc i)
+    open_by_number : (i : ℕ) (x : Item) → slice_get (items_closed (central_run chart steps).items entries u) i ≡ Some x → ((x.act.0 == a) && not x.closed) ≡ is_open_number (suc i)
     open_by_number i x e =
         let act : Some x.act ≡ option_map (λ s. s.start.act) (slice_get (all_starts chart u steps) i) =
         sym (ap (option_map (λ (y : Item). y.act)) e)
-        ∙ sym (slice_get-map (λ (y : Item). y.act) (items_closed (central_run chart steps) entries u) i)
+        ∙ sym (slice_get-map (λ (y : Item). y.act) (items_closed (central_run chart steps).items entries u) i)
         ∙ ap (λ (l : List ActId). slice_get l i) now_acts
         ∙ slice_get-map (λ (s : StartIn). s.start.act) (all_starts chart u steps) i in
         let own : (x.act.0 == a) ≡ is_start_of a (slice_get (all_starts chart u steps) i) =
@@ -61,12 +61,12 @@ module _ (chart : Chart) (steps : List (List Entry)) (entries : List Entry) (run
         ∙ ap (λ (b : Bool). b || is_pending entries u (suc i)) (closed_is_completed chart steps u (suc i) run) in
         ap₂ (λ (b d : Bool). b && not d) own done
 
-    open_items : open_count a (items_closed (central_run chart steps) entries u) ≡ length (open_numbers chart steps entries a u)
+    open_items : open_count a (items_closed (central_run chart steps).items entries u) ≡ length (open_numbers chart steps entries a u)
     open_items =
-        let many : length (items_closed (central_run chart steps) entries u) ≡ length (all_starts chart u steps) =
-        sym (length-map (items_closed (central_run chart steps) entries u) (λ x. x.act)) ∙ ap length now_acts ∙ length-map (all_starts chart u steps) (λ s. s.start.act) in
-        counts_open_items a (items_closed (central_run chart steps) entries u)
-        ∙ count_by_number (λ x. (x.act.0 == a) && not x.closed) is_open_number 1 (items_closed (central_run chart steps) entries u)
+        let many : length (items_closed (central_run chart steps).items entries u) ≡ length (all_starts chart u steps) =
+        sym (length-map (items_closed (central_run chart steps).items entries u) (λ x. x.act)) ∙ ap length now_acts ∙ length-map (all_starts chart u steps) (λ s. s.start.act) in
+        counts_open_items a (items_closed (central_run chart steps).items entries u)
+        ∙ count_by_number (λ x. (x.act.0 == a) && not x.closed) is_open_number 1 (items_closed (central_run chart steps).items entries u)
         (λ i x e. let number : suc i ≡ 1 + i = omega arith in open_by_number i x e ∙ ap is_open_number number)
         ∙ ap (λ (k : ℕ). length (filter is_open_number (range_with_len 1 k))) many
 
@@ -74,6 +74,6 @@ module _ (chart : Chart) (steps : List (List Entry)) (entries : List Entry) (run
   unfolding snapshot_of
   counts_open = ap Some (go (act_unit chart a))
     where
-      go : (o : Option ℕ) → option_map_or (λ u. open_count a (items_closed (central_run chart steps) entries u)) o 0 ≡ option_map_or (λ u. length (open_numbers chart steps entries a u)) o 0
+      go : (o : Option ℕ) → option_map_or (λ u. open_count a (items_closed (central_run chart steps).items entries u)) o 0 ≡ option_map_or (λ u. length (open_numbers chart steps entries a u)) o 0
       go None = refl
       go (Some u) = open_items u

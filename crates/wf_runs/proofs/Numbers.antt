@@ -49,7 +49,7 @@ module _ (chart : Chart) where
     next_acts : (c : CentralState) (entries : List Entry) → acts ((next_state chart c entries).items u) ≡ acts (c.items u) ++ map (λ s. s.act) (starts_at chart u c entries)
     unfolding next_state
     next_acts c entries =
-        map-append (λ (x : Item). x.act) (items_closed c entries u) (map (λ s. new_item s.act) (starts_at chart u c entries))
+        map-append (λ (x : Item). x.act) (items_closed c.items entries u) (map (λ s. new_item s.act) (starts_at chart u c entries))
         ∙ ap₂ (λ (l m : List ActId). l ++ m) (closing_keeps_acts (completions_at u entries) (c.items u)) (map-map (λ (x : Item). x.act) (λ (s : StartAt). new_item s.act) (starts_at chart u c entries))
 
     step_acts : (k : ℕ) (starts : List StartAt) (more : List StartIn) → acts_started (map (in_step k) starts ++ more) ≡ map (λ s. s.act) starts ++ acts_started more

@@ -14,15 +14,15 @@ and_assoc false q r = refl
 
 -- entries may come where the first of them may, and then the others behind these
 pub comes_in_parts : (chart : Chart) (c : CentralState) (pending xs ys : List Entry) →
-    may_come_after chart c pending (xs ++ ys) ≡ (may_come_after chart c pending xs && may_come_after chart c (pending ++ xs) ys)
-comes_in_parts chart c pending [] ys = ap (λ (before : List Entry). may_come_after chart c before ys) (sym (append-nil pending))
+    may_come_after chart c.items pending (xs ++ ys) ≡ (may_come_after chart c.items pending xs && may_come_after chart c.items (pending ++ xs) ys)
+comes_in_parts chart c pending [] ys = ap (λ (before : List Entry). may_come_after chart c.items before ys) (sym (append-nil pending))
 comes_in_parts chart c pending (x ∷ xs) ys =
-    ap (λ (b : Bool). is_ok (may_be_admitted chart c pending x.unit.0 x.outer) && b)
+    ap (λ (b : Bool). is_ok (may_be_admitted chart c.items pending x.unit.0 x.outer) && b)
     (comes_in_parts chart c (pending ++ x ∷ []) xs ys
-    ∙ ap (λ (before : List Entry). may_come_after chart c (pending ++ x ∷ []) xs && may_come_after chart c before ys) (append_assoc pending (x ∷ []) xs))
-    ∙ and_assoc (is_ok (may_be_admitted chart c pending x.unit.0 x.outer)) (may_come_after chart c (pending ++ x ∷ []) xs) (may_come_after chart c (pending ++ x ∷ xs) ys)
+    ∙ ap (λ (before : List Entry). may_come_after chart c.items (pending ++ x ∷ []) xs && may_come_after chart c.items before ys) (append_assoc pending (x ∷ []) xs))
+    ∙ and_assoc (is_ok (may_be_admitted chart c.items pending x.unit.0 x.outer)) (may_come_after chart c.items (pending ++ x ∷ []) xs) (may_come_after chart c.items (pending ++ x ∷ xs) ys)
 
-pub step_comes_in_parts : (chart : Chart) (c : CentralState) (xs ys : List Entry) → may_come chart c (xs ++ ys) ≡ (may_come chart c xs && may_come_after chart c xs ys)
+pub step_comes_in_parts : (chart : Chart) (c : CentralState) (xs ys : List Entry) → may_come chart c.items (xs ++ ys) ≡ (may_come chart c.items xs && may_come_after chart c.items xs ys)
 step_comes_in_parts chart c xs ys = comes_in_parts chart c [] xs ys
 
 -- the state after some steps and then others

@@ -1,5 +1,5 @@
 -- Two states that see the same do the same.
-use Rattle.std.proofs.Common.{◌≡◌, List, Some, ap, ap₂}
+use Rattle.std.proofs.Common.{◌≡◌, ℕ, List, Some, ap, ap₂}
 use Rattle.std.specs.Prelude.{slice_get}
 use Rattle.wf_model.specs.declared.chart.Chart.{Chart}
 use Rattle.wf_model.specs.declared.outer.Entry.{Entry}
@@ -33,11 +33,11 @@ module _ (chart : Chart) (c : CentralState) (e : List Entry) (d : CentralState) 
 
   pub same_store : (next_state chart c e).store ≡ (next_state chart d f).store
   unfolding next_state
-  same_store = λ i. after_fired chart (same_snapshot i) (same_fired i) (alike.store i)
+  same_store = λ i. after_fired chart (same_snapshot i).seen (same_fired i) (alike.store i)
 
   pub same_raised : (next_state chart c e).raised ≡ (next_state chart d f).raised
   unfolding next_state
-  same_raised = ap₂ (raised_by chart) same_snapshot same_fired
+  same_raised = ap₂ (λ (snap : Snapshot) (fired : List ℕ). raised_by chart snap.seen fired) same_snapshot same_fired
 
   pub same_starts : starts_of chart (fired_in chart c e) ≡ starts_of chart (fired_in chart d f)
   same_starts = ap (starts_of chart) same_fired

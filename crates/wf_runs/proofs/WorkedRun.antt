@@ -89,6 +89,6 @@ unfolding next_state fired_in first_state snapshot_of is_enabled grown children 
 one_open = refl
 
 -- a third step may not complete it again
-not_twice : may_come chart (central_run chart both_steps) (completion ∷ []) ≡ false
+not_twice : may_come chart (central_run chart both_steps).items (completion ∷ []) ≡ false
 unfolding may_be_admitted next_state fired_in first_state snapshot_of is_enabled grown children ancestors_by walked all_walked fired all_fired
 not_twice = refl

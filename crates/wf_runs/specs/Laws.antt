@@ -73,7 +73,7 @@ ClosedIsCompleted =
 -- the count that a step sees of an activity is how many of its items were started before, and not completed by now
 abbrev pub CountsOpenStarts : Type 0
 CountsOpenStarts =
-    (chart : Chart) (steps : List (List Entry)) (entries : List Entry) (a : ℕ) → IsRun chart steps → may_come chart (central_run chart steps) entries ≡ true →
+    (chart : Chart) (steps : List (List Entry)) (entries : List Entry) (a : ℕ) → IsRun chart steps → may_come chart (central_run chart steps).items entries ≡ true →
     (snapshot_of chart (central_run chart steps) entries).seen.count a
     ≡ Some (option_map_or (λ u. length (open_numbers chart steps entries a u)) (act_unit chart a) 0)
 
@@ -92,7 +92,7 @@ abbrev pub NoSecondCompletion : Type 0
 NoSecondCompletion =
     (chart : Chart) (steps : List (List Entry)) (pending : List Entry) (u n : ℕ) (a : ActId) (outputs : List Output) → IsRun chart steps →
     (is_completed steps u n || is_pending pending u n) ≡ true →
-    is_ok (may_be_admitted chart (central_run chart steps) pending u (Complete n a outputs)) ≡ false
+    is_ok (may_be_admitted chart (central_run chart steps).items pending u (Complete n a outputs)) ≡ false
 
 -- at most one entry of a run completes an item
 abbrev pub CompletedOnce : Type 0

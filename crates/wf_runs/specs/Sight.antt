@@ -10,6 +10,6 @@ use Rattle.wf_semantics.specs.Run.{CentralState, is_there, open_now, done_now}
 pub record SeeAlike (chart : Chart) (c : CentralState) (e : List Entry) (d : CentralState) (f : List Entry) : Type 0 where
   pub configuration : c.configuration ≡ d.configuration
   pub store : after_entries e c.store ≡ after_entries f d.store
-  pub there : (event : ℕ) → is_there c e event ≡ is_there d f event
-  pub counts : (a : ℕ) → open_now chart c e a ≡ open_now chart d f a
+  pub there : (event : ℕ) → is_there c.raised e event ≡ is_there d.raised f event
+  pub counts : (a : ℕ) → open_now chart c.items e a ≡ open_now chart d.items f a
   pub dones : (a : ℕ) → done_now chart e a ≡ done_now chart f a

@@ -12,7 +12,7 @@ use std::marker::Model;
 use wf_model::{Checked, List, NoMemory, StateId, TransId};
 
 /// The tables of one chart: who is above whom, the scopes of transitions and what these enter.
-#[derive(Debug, Drop)]
+#[derive(Drop)]
 pub struct Scopes {
     lineages: List<List<StateId>>,
     scopes: List<StateId>,

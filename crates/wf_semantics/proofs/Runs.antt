@@ -24,7 +24,7 @@ enabled_sources chart snap c shows t lt h =
     let from : source chart t ≡ w.0.source.0 = ap (λ (o : Option Transition). unwrap_or (option_map (λ trans. trans.source.0) o) 0) w.1 in
     ap (λ (s : ℕ). is_in s c) from
     ∙ ap (λ (o : Option Bool). unwrap_or o false) (sym (shows w.0.source.0))
-    ∙ (and_both (is_active snap w.0.source.0) (has_event snap w.0.event && has_guard snap w.0.guard) ready).0
+    ∙ (and_both (is_active snap.seen w.0.source.0) (has_event snap.there w.0.event && has_guard snap.seen w.0.guard) ready).0
 
 pub snapshot_shows : (chart : Chart) (c : CentralState) (entries : List Entry) (s : ℕ) → (snapshot_of chart c entries).seen.state s ≡ Some (is_in s c.configuration)
 unfolding snapshot_of

@@ -141,7 +141,7 @@ complete n val = Complete n (record { 0 = 0 }) (record { var = record { 0 = 0 };
 abbrev started : CentralState
 started = next_state writes (first_state writes) []
 
-no_item_yet : may_be_admitted writes (first_state writes) [] 0 (complete 1 (v.Int (pos 9))) ≡ Err NoItem
+no_item_yet : may_be_admitted writes (first_state writes).items [] 0 (complete 1 (v.Int (pos 9))) ≡ Err NoItem
 unfolding may_be_admitted first_state
 no_item_yet = refl
 
@@ -149,22 +149,22 @@ starts_one : started_in writes (first_state writes) [] ≡ (record { 0 = 0 }, 1)
 unfolding started_in next_state fired_in first_state snapshot_of is_enabled grown children ancestors_by walked all_walked fired all_fired
 starts_one = refl
 
-wrong_sort : may_be_admitted writes started [] 0 (complete 1 (v.Bool true)) ≡ Err WrongOutput
+wrong_sort : may_be_admitted writes started.items [] 0 (complete 1 (v.Bool true)) ≡ Err WrongOutput
 unfolding may_be_admitted next_state fired_in first_state snapshot_of is_enabled grown children ancestors_by walked all_walked fired all_fired
 wrong_sort = refl
 
-right_sort : may_be_admitted writes started [] 0 (complete 1 (v.Int (pos 9))) ≡ Ok tt
+right_sort : may_be_admitted writes started.items [] 0 (complete 1 (v.Int (pos 9))) ≡ Ok tt
 unfolding may_be_admitted next_state fired_in first_state snapshot_of is_enabled grown children ancestors_by walked all_walked fired all_fired
 right_sort = refl
 
 abbrev nine : Entry
 nine = record { unit = record { 0 = 0 }; outer = complete 1 (v.Int (pos 9)) }
 
-not_twice : may_be_admitted writes started (nine ∷ []) 0 (complete 1 (v.Int (pos 9))) ≡ Err AlreadyDone
+not_twice : may_be_admitted writes started.items (nine ∷ []) 0 (complete 1 (v.Int (pos 9))) ≡ Err AlreadyDone
 unfolding may_be_admitted next_state fired_in first_state snapshot_of is_enabled grown children ancestors_by walked all_walked fired all_fired
 not_twice = refl
 
-not_there : may_be_admitted writes started [] 0 (Happen (record { 0 = 1 })) ≡ Err WrongUnit
+not_there : may_be_admitted writes started.items [] 0 (Happen (record { 0 = 1 })) ≡ Err WrongUnit
 unfolding may_be_admitted
 not_there = refl
 

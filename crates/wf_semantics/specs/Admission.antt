@@ -13,7 +13,7 @@ use Rattle.wf_model.specs.declared.outer.OuterFault.TheVariants.{WrongUnit, NoIt
 use Rattle.wf_model.specs.Seen.{val_sort}
 use Rattle.wf_model.specs.Sorts.{var_sort, alike}
 use Rattle.wf_semantics.specs.Items.{Item, item_at}
-use Rattle.wf_semantics.specs.Run.{CentralState, act_unit}
+use Rattle.wf_semantics.specs.Run.{act_unit}
 
 -- event e is at unit u
 abbrev pub is_event_at : Chart → ℕ → ℕ → Bool
@@ -52,20 +52,20 @@ abbrev pub are_outputs_of : Chart → ℕ → List Output → Bool
 are_outputs_of chart a outputs = option_map_or (λ act. are_values chart act.outputs outputs) (slice_get chart.acts a) false
 
 -- the first refusal that applies, where these entries are pending
-unfoldable pub may_be_admitted : Chart → CentralState → List Entry → ℕ → Outer → Result (Unit {0}) OuterFault
-may_be_admitted chart c pending u (Happen e) = if is_event_at chart u e.0 then Ok tt else Err WrongUnit
-may_be_admitted chart c pending u (Complete n a outputs) =
+unfoldable pub may_be_admitted : Chart → (ℕ → List Item) → List Entry → ℕ → Outer → Result (Unit {0}) OuterFault
+may_be_admitted chart items pending u (Happen e) = if is_event_at chart u e.0 then Ok tt else Err WrongUnit
+may_be_admitted chart items pending u (Complete n a outputs) =
     if not (is_act_at chart u a.0) then Err WrongUnit
-    else if not (is_of a.0 (item_at (c.items u) n)) then Err NoItem
-    else if is_closed (item_at (c.items u) n) || is_pending pending u n then Err AlreadyDone
+    else if not (is_of a.0 (item_at (items u) n)) then Err NoItem
+    else if is_closed (item_at (items u) n) || is_pending pending u n then Err AlreadyDone
     else if not (are_outputs_of chart a.0 outputs) then Err WrongOutput
     else Ok tt
 
 -- each of these entries may be admitted, where those before it are pending and so are the given ones
-abbrev pub may_come_after : Chart → CentralState → List Entry → List Entry → Bool
-may_come_after chart c pending [] = true
-may_come_after chart c pending (x ∷ xs) = is_ok (may_be_admitted chart c pending x.unit.0 x.outer) && may_come_after chart c (pending ++ x ∷ []) xs
+abbrev pub may_come_after : Chart → (ℕ → List Item) → List Entry → List Entry → Bool
+may_come_after chart items pending [] = true
+may_come_after chart items pending (x ∷ xs) = is_ok (may_be_admitted chart items pending x.unit.0 x.outer) && may_come_after chart items (pending ++ x ∷ []) xs
 
 -- the entries may come in the next step
-abbrev pub may_come : Chart → CentralState → List Entry → Bool
-may_come chart c entries = may_come_after chart c [] entries
+abbrev pub may_come : Chart → (ℕ → List Item) → List Entry → Bool
+may_come chart items entries = may_come_after chart items [] entries

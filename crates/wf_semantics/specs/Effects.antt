@@ -12,8 +12,8 @@ use Rattle.wf_model.specs.declared.outer.Outer.{Outer}
 use Rattle.wf_model.specs.declared.outer.Outer.TheVariants.{Happen, Complete}
 use Rattle.wf_model.specs.declared.outer.Entry.{Entry}
 use Rattle.wf_model.specs.declared.update.StartAt.{StartAt}
+use Rattle.wf_model.specs.Seen.{Seen}
 use Rattle.wf_model.specs.Values.{value_of}
-use Rattle.wf_semantics.specs.Snapshot.{Snapshot}
 
 -- the actions of transition t
 abbrev pub actions_of : Chart → ℕ → List Action
@@ -39,20 +39,20 @@ abbrev pub written : ℕ → Result Val Fault → List Val → List Val
 written x (Ok val) store = slice_set store x val
 written x (Err fault) store = store
 
-abbrev pub after_action : Snapshot → Action → List Val → List Val
-after_action snap (Assign x value) store = written x.0 (value_of snap.seen value) store
-after_action snap (Raise e) store = store
-after_action snap (Start a) store = store
+abbrev pub after_action : Seen → Action → List Val → List Val
+after_action seen (Assign x value) store = written x.0 (value_of seen value) store
+after_action seen (Raise e) store = store
+after_action seen (Start a) store = store
 
 -- the actions of one transition in order, a later assignment over an earlier one
-abbrev pub after_actions : Snapshot → List Action → List Val → List Val
-after_actions snap [] store = store
-after_actions snap (x ∷ xs) store = after_actions snap xs (after_action snap x store)
+abbrev pub after_actions : Seen → List Action → List Val → List Val
+after_actions seen [] store = store
+after_actions seen (x ∷ xs) store = after_actions seen xs (after_action seen x store)
 
 -- the transitions in order, a greater number over a smaller one
-abbrev pub after_fired : Chart → Snapshot → List ℕ → List Val → List Val
-after_fired chart snap [] store = store
-after_fired chart snap (t ∷ ts) store = after_fired chart snap ts (after_actions snap (actions_of chart t) store)
+abbrev pub after_fired : Chart → Seen → List ℕ → List Val → List Val
+after_fired chart seen [] store = store
+after_fired chart seen (t ∷ ts) store = after_fired chart seen ts (after_actions seen (actions_of chart t) store)
 
 -- RAISED EVENTS
 
@@ -61,18 +61,18 @@ is_fault (Ok val) = false
 is_fault (Err fault) = true
 
 -- an assignment whose value is a fault raises event 0, which is `fault`
-abbrev pub action_raises : Snapshot → ℕ → Action → Bool
-action_raises snap e (Assign x value) = (e == 0) && is_fault (value_of snap.seen value)
-action_raises snap e (Raise f) = f.0 == e
-action_raises snap e (Start a) = false
+abbrev pub action_raises : Seen → ℕ → Action → Bool
+action_raises seen e (Assign x value) = (e == 0) && is_fault (value_of seen value)
+action_raises seen e (Raise f) = f.0 == e
+action_raises seen e (Start a) = false
 
-abbrev pub raises : Chart → Snapshot → ℕ → ℕ → Bool
-raises chart snap e t = list_any (action_raises snap e) (actions_of chart t)
+abbrev pub raises : Chart → Seen → ℕ → ℕ → Bool
+raises chart seen e t = list_any (action_raises seen e) (actions_of chart t)
 
 -- the events that these transitions raise, ascending
-abbrev pub raised_by : Chart → Snapshot → List ℕ → List EventId
-raised_by chart snap fired =
-    map (λ e. record { 0 = e }) (filter (λ e. list_any (raises chart snap e) fired) (range_with_len 0 (length chart.events)))
+abbrev pub raised_by : Chart → Seen → List ℕ → List EventId
+raised_by chart seen fired =
+    map (λ e. record { 0 = e }) (filter (λ e. list_any (raises chart seen e) fired) (range_with_len 0 (length chart.events)))
 
 -- STARTS
 

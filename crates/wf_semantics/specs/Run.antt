@@ -53,19 +53,19 @@ abbrev pub act_unit : Chart → ℕ → Option ℕ
 act_unit chart a = option_map (λ act. act.unit.0) (slice_get chart.acts a)
 
 -- unit u's items, once the completions have closed theirs
-abbrev pub items_closed : CentralState → List Entry → ℕ → List Item
-items_closed c entries u = close_all (completions_at u entries) (c.items u)
+abbrev pub items_closed : (ℕ → List Item) → List Entry → ℕ → List Item
+items_closed items entries u = close_all (completions_at u entries) (items u)
 
 -- how many items of activity a are open then, and how many were completed
-abbrev pub open_now : Chart → CentralState → List Entry → ℕ → ℕ
-open_now chart c entries a = option_map_or (λ u. open_count a (items_closed c entries u)) (act_unit chart a) 0
+abbrev pub open_now : Chart → (ℕ → List Item) → List Entry → ℕ → ℕ
+open_now chart items entries a = option_map_or (λ u. open_count a (items_closed items entries u)) (act_unit chart a) 0
 
 abbrev pub done_now : Chart → List Entry → ℕ → Bool
 done_now chart entries a = option_map_or (λ u. nat_lt 0 (done_count a (completions_at u entries))) (act_unit chart a) false
 
 -- the events raised in the last step, and those that happened now
-abbrev pub is_there : CentralState → List Entry → ℕ → Bool
-is_there c entries e = list_any (λ r. r.0 == e) c.raised || list_any (λ x. is_happening e x.outer) entries
+abbrev pub is_there : List EventId → List Entry → ℕ → Bool
+is_there raised entries e = list_any (λ r. r.0 == e) raised || list_any (λ x. is_happening e x.outer) entries
 
 unfoldable pub snapshot_of : Chart → CentralState → List Entry → Snapshot
 snapshot_of chart c entries =
@@ -73,10 +73,10 @@ snapshot_of chart c entries =
       seen = record {
         state = λ s. Some (is_in s c.configuration);
         var = slice_get (after_entries entries c.store);
-        count = λ a. Some (open_now chart c entries a);
+        count = λ a. Some (open_now chart c.items entries a);
         done = λ a. Some (done_now chart entries a);
       };
-      there = is_there c entries;
+      there = is_there c.raised entries;
     }
 
 -- A STEP
@@ -96,9 +96,9 @@ unfoldable pub next_state : Chart → CentralState → List Entry → CentralSta
 next_state chart c entries =
     record {
       configuration = new_tree chart (is_enabled chart (snapshot_of chart c entries)) c.configuration;
-      store = after_fired chart (snapshot_of chart c entries) (fired_in chart c entries) (after_entries entries c.store);
-      raised = raised_by chart (snapshot_of chart c entries) (fired_in chart c entries);
-      items = λ u. items_closed c entries u ++ new_items chart u (starts_of chart (fired_in chart c entries));
+      store = after_fired chart (snapshot_of chart c entries).seen (fired_in chart c entries) (after_entries entries c.store);
+      raised = raised_by chart (snapshot_of chart c entries).seen (fired_in chart c entries);
+      items = λ u. items_closed c.items entries u ++ new_items chart u (starts_of chart (fired_in chart c entries));
       taken = c.taken + 1;
     }
 

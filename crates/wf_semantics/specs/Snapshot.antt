@@ -15,13 +15,13 @@ pub record Snapshot : Type 0 where
   pub seen : Seen
   pub there : ℕ → Bool
 
-abbrev pub is_active : Snapshot → ℕ → Bool
-is_active snap s = unwrap_or (snap.seen.state s) false
+abbrev pub is_active : Seen → ℕ → Bool
+is_active seen s = unwrap_or (seen.state s) false
 
 -- a transition without event needs none
-abbrev pub has_event : Snapshot → Option EventId → Bool
-has_event snap None = true
-has_event snap (Some e) = snap.there e.0
+abbrev pub has_event : (ℕ → Bool) → Option EventId → Bool
+has_event there None = true
+has_event there (Some e) = there e.0
 
 -- only the value true is true; a fault is not
 abbrev pub is_true : Result Val Fault → Bool
@@ -31,13 +31,13 @@ is_true (Ok (v.Text t)) = false
 is_true (Err fault) = false
 
 -- a transition without guard needs none
-abbrev pub has_guard : Snapshot → Option Expr → Bool
-has_guard snap None = true
-has_guard snap (Some guard) = is_true (value_of snap.seen guard)
+abbrev pub has_guard : Seen → Option Expr → Bool
+has_guard seen None = true
+has_guard seen (Some guard) = is_true (value_of seen guard)
 
 -- the source is active, the event is there, and the guard is true
 abbrev pub is_ready : Snapshot → Transition → Bool
-is_ready snap trans = is_active snap trans.source.0 && (has_event snap trans.event && has_guard snap trans.guard)
+is_ready snap trans = is_active snap.seen trans.source.0 && (has_event snap.there trans.event && has_guard snap.seen trans.guard)
 
 -- transition t is enabled
 unfoldable pub is_enabled : Chart → Snapshot → ℕ → Bool

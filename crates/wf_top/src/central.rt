@@ -37,7 +37,7 @@ fn answer_lines(alloc: Global, chart: &Checked, script: &[u8]) -> Result<Answer,
     requires few { length (lines_of script.now) ≤ max_lines }
     ensures { IfOk result (λ a. a ≡ spec.lines_answer chart.now (script_of chart.now script.now)) }
 {
-    match read_central(alloc, chart.chart(), script) {
+    match read_central(alloc, chart, script) {
         Ok(lines) => run(alloc, chart, lines.as_slice()),
         Err(ScriptFault::Refused { line }) => Ok(Answer {
             status: Status::ScriptRefused,

@@ -5,7 +5,7 @@ ghost use Rattle.wf_top.specs.Answers as spec;
 use wf_model::Bytes;
 
 /// What the words of a run ask for.
-#[derive(Clone, Copy, Debug, PartialEq, Eq)]
+#[derive(Clone, Copy)]
 pub enum Command {
     /// Check the chart of the input.
     Check,

@@ -5,7 +5,9 @@ mod answer;
 mod central;
 mod charts;
 mod command;
+mod exit;
 mod split;
 mod top;
 
+pub use exit::exit_number;
 pub use top::mentor;

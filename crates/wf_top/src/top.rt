@@ -26,7 +26,7 @@ fn finish<K: Sink>(sink: &mut K, status: Status, text: &[u8]) -> Status
 
 /// Does what the words say over all that the source has left, writes to the sink, and tells how it ended. The word
 /// `check` checks the chart of an input, the word `central` runs its script on the chart, the word `split` cuts the chart
-/// into the parts of its units. No command reads the clock yet.
+/// into the parts of its units. No command reads the clock.
 ///
 /// Grows with the input, with what is written, and with the states times their depth; a step of a run grows with the
 /// states times their depth and with the transitions; `split` grows with the states and with the transitions, each times
@@ -36,9 +36,10 @@ pub fn mentor<S: Source, K: Sink, C: Clock>(
     words: &List<Bytes>,
     source: &mut S,
     sink: &mut K,
-    _clock: &mut C,
+    clock: &mut C,
 ) -> Status
-    ensures { MayAnswer words.now
+    ensures clock { C.last clock.new ≡ C.last clock.old }
+    ensures answer { MayAnswer words.now
         (record { left = S.left source.old; read_faults = S.faults source.old; held = K.held sink.old; write_faults = K.faults sink.old })
         (record { left = S.left source.new; read_faults = S.faults source.new; held = K.held sink.new; write_faults = K.faults sink.new })
         result }

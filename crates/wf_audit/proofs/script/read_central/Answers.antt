@@ -14,9 +14,9 @@ unfolding script_of
 returns-in_err-said c =
     let some : c.loop-rest.rest.now ≢ [] = search rules in
     let same : c.from_residual-in_err-said.result ≡ Err c.in_err-said.field-0.0 = search rules in
-    subst (λ (r : Result (List (ℕ × CentralLine)) ScriptFault). Gives r (script_of c.args.chart.now c.args.script.now)) (sym same)
+    subst (λ (r : Result (List (ℕ × CentralLine)) ScriptFault). Gives r (script_of c.args.checked.now c.args.script.now)) (sym same)
     (gives_refused (finder_of c.in_ok-names.names) (c.loop-rest.number + 1) c.loop-rest.lines c.loop-rest.rest.now c.split_line.result.0.now
-    c.in_err-said.field-0.0 (script_of c.args.chart.now c.args.script.now) some c.split_line.ensures.line
+    c.in_err-said.field-0.0 (script_of c.args.checked.now c.args.script.now) some c.split_line.ensures.line
     (c.loop-rest.invariant.read ∙ ap (λ (names : Finder). lines_from names 1 (lines_of c.args.script.now)) c.in_ok-names.ensures)
     c.in_err-said.ensures)
 

@@ -1,10 +1,10 @@
 use Rattle.std.proofs.Common.{length, ◌∙◌}
 use Rattle.wf_semantics.specs.Snapshot.{is_enabled}
-use Rattle.wf_semantics.specs.Run.{snapshot_of, is_there, fired_in, next_state}
+use Rattle.wf_semantics.specs.Run.{snapshot_of, fired_in, next_state}
 use Rattle.wf_semantics.proofs.Facts.{chart_of}
 use Rattle.wf_semantics.proofs.Runs.{enabled_sources, snapshot_shows}
 use Rattle.wf_model.proofs.Rows.{row_agree}
-use Rattle.wf_effects.specs.Seeing.{seeing}
+use Rattle.wf_central.specs.Sight.{seeing}
 use Rattle.wf_central.specs.Kept.{bit}
 use Rattle.wf_central.specs.Made.{AreBits, MakesWalk, seen_of}
 use Rattle.wf_central.proofs.Sights.{shows, enabled_same, store_made, raised_made, starts_made}
@@ -35,7 +35,7 @@ returns-clause-step c = λ state entries seen.
     record {
       fired = walk.fired;
       active = walk.active;
-      store = store_made chart ok state entries snap c.args.there.now seen c.as_slice-2.result.now fired c.in_ok-effects.effects.store (c.in_ok-effects.ensures.store (is_there state entries));
-      raised = raised_made chart ok state entries snap c.args.there.now seen c.as_slice-2.result.now fired c.in_ok-effects.effects.raised (c.in_ok-effects.ensures.raised (is_there state entries));
+      store = store_made chart ok state entries snap c.args.there.now seen c.as_slice-2.result.now fired c.in_ok-effects.effects.store c.in_ok-effects.ensures.store;
+      raised = raised_made chart ok state entries snap c.args.there.now seen c.as_slice-2.result.now fired c.in_ok-effects.effects.raised c.in_ok-effects.ensures.raised;
       starts = starts_made chart ok state entries snap c.args.there.now seen c.as_slice-2.result.now fired c.in_ok-effects.effects.starts c.in_ok-effects.ensures.starts;
     }

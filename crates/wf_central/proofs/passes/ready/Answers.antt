@@ -4,7 +4,7 @@ use Rattle.std.specs.Option.{option_map}
 use Rattle.wf_semantics.specs.Snapshot.{is_ready, is_enabled}
 use Rattle.wf_model.proofs.Rows.{row_more}
 use Rattle.wf_scopes.proofs.Lines.{trans_get}
-use Rattle.wf_effects.specs.Seeing.{seeing}
+use Rattle.wf_central.specs.Sight.{seeing}
 use Rattle.wf_central.specs.Kept.{bit}
 use Rattle.wf_central.specs.Made.{seen_of}
 use Rattle.wf_central.proofs.Sights.{shows, guard_read}

@@ -1,7 +1,7 @@
 use Rattle.std.proofs.Common.{◌≡◌, map}
 use Rattle.std.specs.List.{range_with_len}
 use Rattle.wf_semantics.specs.Snapshot.{is_enabled}
-use Rattle.wf_effects.specs.Seeing.{seeing}
+use Rattle.wf_central.specs.Sight.{seeing}
 use Rattle.wf_central.specs.Kept.{bit}
 use Rattle.wf_central.specs.Made.{seen_of}
 use Rattle.wf_central.proofs.passes.ready.Given as goal

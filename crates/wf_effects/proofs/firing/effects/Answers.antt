@@ -1,5 +1,5 @@
 use Rattle.std.proofs.Common.{length, ap, ◌∙◌, arith}
-use Rattle.wf_effects.specs.Seeing.{numbers}
+use Rattle.wf_effects.specs.Numbers.{numbers}
 use Rattle.wf_effects.specs.Performing.{nothing_yet, events_of}
 use Rattle.wf_effects.proofs.Bits.{few_events}
 use Rattle.wf_effects.proofs.Effecting.{store_is, raised_is, raised_size, starts_is, sorts_is}
@@ -16,15 +16,15 @@ events-requires g c =
     )
 
 pub returns-clause-store : goal.returns-clause-store
-returns-clause-store g c there =
+returns-clause-store g c =
     let first = c.in_ok-gathered.ensures ∙ ap (nothing_yet c.args.store.now) c.len.ensures in
-    store_is c.args.chart.now (g.S.Snapshot.seen c.args.snap.now) (numbers c.args.fired.now) c.args.store.now _ _ first c.in_ok-fire_all.ensures there
+    store_is c.args.chart.now (g.S.Snapshot.seen c.args.snap.now) (numbers c.args.fired.now) c.args.store.now _ _ first c.in_ok-fire_all.ensures
 
 pub returns-clause-raised : goal.returns-clause-raised
-returns-clause-raised g c there =
+returns-clause-raised g c =
     let first = c.in_ok-gathered.ensures ∙ ap (nothing_yet c.args.store.now) c.len.ensures in
     c.in_ok-raised.ensures ∙ ap events_of c.as_slice.ensures
-    ∙ raised_is c.args.chart.now (g.S.Snapshot.seen c.args.snap.now) (numbers c.args.fired.now) c.args.store.now _ _ first c.in_ok-fire_all.ensures there
+    ∙ raised_is c.args.chart.now (g.S.Snapshot.seen c.args.snap.now) (numbers c.args.fired.now) c.args.store.now _ _ first c.in_ok-fire_all.ensures
 
 pub returns-clause-starts : goal.returns-clause-starts
 returns-clause-starts g c =

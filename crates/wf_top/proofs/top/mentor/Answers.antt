@@ -9,8 +9,8 @@ use Rattle.wf_top.specs.Answers.{answer, answer_within, command_of}
 use Rattle.wf_top.proofs.Dues.{finished, long_answer, read_answer, answer_due}
 use Rattle.wf_top.proofs.top.mentor.Goals as goal
 
-pub returns-in_default : goal.returns-in_default
-returns-in_default g c =
+pub returns-in_default-clause-answer : goal.returns-in_default-clause-answer
+returns-in_default-clause-answer g c =
     let unnamed : command_of c.args.words.now ≡ None = search rules in
     finished c.args.words.now (record { left = g.S.Source.left c.args.source.now; read_faults = g.S.Source.faults c.args.source.now; held = g.K.Sink.held c.args.sink.now; write_faults = g.K.Sink.faults c.args.sink.now })
     (record { left = g.S.Source.left c.args.source.now; read_faults = g.S.Source.faults c.args.source.now; held = g.K.Sink.held c.finish.new.sink; write_faults = g.K.Sink.faults c.finish.new.sink })
@@ -18,8 +18,8 @@ returns-in_default g c =
     (unnamed, record { left = refl; faults = refl }, refl)
     c.finish.ensures
 
-pub returns-in-Err-ReadFailed : goal.returns-in-Err-ReadFailed
-returns-in-Err-ReadFailed g c =
+pub returns-in-Err-ReadFailed-clause-answer : goal.returns-in-Err-ReadFailed-clause-answer
+returns-in-Err-ReadFailed-clause-answer g c =
     let named : command_of c.args.words.now ≡ Some c.in-Some.command = search rules in
     let rose : Rose (g.S.Source.faults c.args.source.now) (g.S.Source.faults c.read_all.new.source) = search rules in
     finished c.args.words.now (record { left = g.S.Source.left c.args.source.now; read_faults = g.S.Source.faults c.args.source.now; held = g.K.Sink.held c.args.sink.now; write_faults = g.K.Sink.faults c.args.sink.now })
@@ -28,8 +28,8 @@ returns-in-Err-ReadFailed g c =
     (record { command = c.in-Some.command; named = named; faults = rose }, refl)
     c.finish-in-Err-ReadFailed.ensures
 
-pub returns-in-Err-TooLong : goal.returns-in-Err-TooLong
-returns-in-Err-TooLong g c =
+pub returns-in-Err-TooLong-clause-answer : goal.returns-in-Err-TooLong-clause-answer
+returns-in-Err-TooLong-clause-answer g c =
     let named : command_of c.args.words.now ≡ Some c.in-Some.command = search rules in
     let kept : g.S.Source.faults c.read_all.new.source ≡ g.S.Source.faults c.args.source.now = search rules in
     let long : IfSome (g.S.Source.left c.args.source.now) (λ bytes. max_input < length bytes) = search rules in
@@ -39,8 +39,8 @@ returns-in-Err-TooLong g c =
     (record { command = c.in-Some.command; named = named; faults = kept; answer = long_answer c.in-Some.command (g.S.Source.left c.args.source.now) long }, inl refl)
     c.finish-in-Err-TooLong.ensures
 
-pub returns : goal.returns
-returns g c =
+pub returns-clause-answer : goal.returns-clause-answer
+returns-clause-answer g c =
     let named : command_of c.args.words.now ≡ Some c.in-Some.command = search rules in
     let kept : g.S.Source.faults c.read_all.new.source ≡ g.S.Source.faults c.args.source.now = search rules in
     let taken : Consumes (g.S.Source.left c.args.source.now) (g.S.Source.left c.read_all.new.source) c.in-Ok.input = search rules in

@@ -5,13 +5,13 @@ use Rattle.wf_model.specs.declared.ids.VarId.{VarId}
 use Rattle.std.proofs.Common.{List}
 use Rattle.wf_semantics.specs.Items.{Item}
 use Rattle.wf_activities.specs.Completing.{may_complete, unless_pending}
-use Rattle.wf_activities.specs.Stock.{Stock, items_at, state_with}
+use Rattle.wf_activities.specs.Stock.{Stock, items_at}
 use Rattle.wf_activities.proofs.Admitting.{act_there, unit_known, get_within, outputs_sorted, wanted_length, wanted_read, units_length, items_read, wrong_unit, answered}
 use Rattle.wf_activities.proofs.all_items.AllItems.may_complete.Goals as goal
 
 pub returns-then-not-is_act_at : goal.returns-then-not-is_act_at
 returns-then-not-is_act_at c =
-    wrong_unit c.args.chart.now (state_with (items_at c.args.self.now)) c.args.pending.now c.args.unit.0 c.args.item c.args.act c.args.outputs.now (sym c.is_act_at.ensures ∙ c.if-not-is_act_at.true)
+    wrong_unit c.args.chart.now (items_at c.args.self.now) c.args.pending.now c.args.unit.0 c.args.item c.args.act c.args.outputs.now (sym c.is_act_at.ensures ∙ c.if-not-is_act_at.true)
 
 pub index-items-requires : goal.index-items-requires
 index-items-requires c =
@@ -56,5 +56,5 @@ returns c =
     (c.may_complete-answer.ensures.answer
     ∙ ap₂ (λ (l : List Item) (w : List (VarId × Sort)). may_complete l c.args.item c.args.act c.args.outputs.now w) items (c.as_slice-2.ensures ∙ made))
     c.is_pending.ensures
-    ∙ answered c.args.chart.now (state_with (items_at c.args.self.now)) c.args.pending.now c.args.unit.0 c.args.item c.args.act c.args.outputs.now there.0 _
+    ∙ answered c.args.chart.now (items_at c.args.self.now) c.args.pending.now c.args.unit.0 c.args.item c.args.act c.args.outputs.now there.0 _
     (sym c.is_act_at.ensures ∙ c.if-not-is_act_at.false) there.1 (outputs_sorted c.args.chart.now c.requires.accepted c.args.act.0 there.0 there.1)

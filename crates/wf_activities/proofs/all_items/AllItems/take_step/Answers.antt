@@ -6,7 +6,7 @@ use Rattle.wf_model.specs.declared.ids.ActId.{ActId}
 use Rattle.wf_semantics.specs.Items.{Item}
 use Rattle.wf_semantics.specs.Run.{completions_at}
 use Rattle.wf_activities.specs.UnitItems.{UnitItems}
-use Rattle.wf_activities.specs.Stock.{Stock, items_at, items_in, steps_in, state_with}
+use Rattle.wf_activities.specs.Stock.{Stock, items_at, items_in, steps_in}
 use Rattle.wf_activities.specs.Completed.{CompleteInTurn}
 use Rattle.wf_activities.proofs.Turns.{come_in_turn}
 use Rattle.wf_activities.proofs.Adding.{added, steps_added}
@@ -20,7 +20,7 @@ pub close_completed-requires : goal.close_completed-requires
 close_completed-requires c =
     subst (λ (items : ℕ → List Item). CompleteInTurn items c.args.entries.now)
     (sym (reserved_items c.self.inside.units c.args.self.now (ap (λ (s : Stock). s.items) c.self.view_is) c.deref_mut.result.now c.reserve.new.units c.deref_mut.ensures.value c.reserve.auto.units c.in_ok-reserve.ensures.items c.deref_mut-2.result.now c.deref_mut-2.ensures.value))
-    (come_in_turn c.args.chart.now (state_with (items_at c.args.self.now)) c.args.entries.now c.requires.come)
+    (come_in_turn c.args.chart.now (items_at c.args.self.now) c.args.entries.now c.requires.come)
 
 pub grow-requires-clause-tables : goal.grow-requires-clause-tables
 grow-requires-clause-tables c =

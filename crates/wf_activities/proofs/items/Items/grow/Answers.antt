@@ -36,7 +36,7 @@ invariant_of-self-2 c =
     (c.as_slice.ensures.value ∙ c.in_ok-append.ensures.started) in
     kept_grown c.self.inside.started.items (at_step c.args.step (listed c.args.chart_unit_acts.now c.args.starts.now)) c.append.new.started.items c.self.inside.closed.items c.append.new.closed.items
     c.self.inside.counts.items c.count_all.new.counts.items c.in_ok-append.ensures.started c.in_ok-append.ensures.closed c.self.invariant
-    (λ a. c.count_all.ensures a
+    (λ a. c.count_all.ensures.made a
     ∙ ap (λ (l : List (ActId × ℕ)). get_or c.widen.new.counts.items a 0 + starts_count a l) fresh
     ∙ ap (λ (n : ℕ). n + starts_count a (at_step c.args.step (listed c.args.chart_unit_acts.now c.args.starts.now))) (c.widen.ensures.same a))
 

@@ -10,7 +10,7 @@ use Rattle.wf_audit.proofs.central.Run.step.Goals as goal
 pub step-requires-clause-come : goal.step-requires-clause-come
 step-requires-clause-come c =
     let same = c.as_slice-2.ensures ∙ c.in_ok-coming.ensures ∙ ap₂ in_unit_order c.chart.ensures.same c.as_slice.ensures in
-    subst (λ (entries : List Entry). may_come c.args.checked.now (central_of c.args.checked.now c.args.self.now.central) entries ≡ true) (sym same)
+    subst (λ (entries : List Entry). may_come c.args.checked.now (central_of c.args.checked.now c.args.self.now.central).items entries ≡ true) (sym same)
     (ordered_may_come c.args.checked.now (central_of c.args.checked.now c.args.self.now.central) c.args.self.now.pending c.requires.sound.come)
 
 pub returns-clause-reply : goal.returns-clause-reply

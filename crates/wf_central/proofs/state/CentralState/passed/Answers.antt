@@ -2,12 +2,11 @@ use Rattle.std.proofs.Common.{◌≡◌, List, [], map, ap, refl, sym, subst, �
 use Rattle.wf_model.specs.declared.value.Val.{Val}
 use Rattle.wf_model.specs.declared.ids.EventId.{EventId}
 use Rattle.wf_semantics.specs.Effects.{after_entries}
-use Rattle.wf_semantics.specs.Run.{open_now}
+use Rattle.wf_semantics.specs.Run.{open_now, is_there}
 use Rattle.wf_semantics.specs.Shown.{HasSorts}
-use Rattle.wf_activities.specs.Stock.{items_at, state_with}
+use Rattle.wf_activities.specs.Stock.{items_at}
 use Rattle.wf_central.specs.Kept.{Kept, central_of}
 use Rattle.wf_model.specs.Tree.{all_acts, all_events}
-use Rattle.wf_central.specs.Sight.{is_there_by}
 use Rattle.wf_central.specs.declared.snapshot.StepSnapshot.{StepSnapshot}
 use Rattle.wf_central.proofs.Sorts.{sorted_after}
 use Rattle.wf_central.proofs.Same.{comes, sees}
@@ -34,7 +33,7 @@ returns-clause-step c =
     (sees chart c.requires.accepted kept c.args.outer.now snap c.as_slice-7.result.now c.requires.of
     (c.as_slice-3.ensures ∙ ap (λ (k : Kept). k.active) c.self.view_is)
     (c.as_slice-4.ensures ∙ c.in_ok-store.ensures ∙ ap (after_entries c.args.outer.now) (c.as_slice-2.ensures ∙ ap (λ (k : Kept). k.store) c.self.view_is))
-    (c.as_slice-5.ensures ∙ c.in_ok-counts.ensures ∙ ap (λ (k : Kept). map (open_now chart (state_with (items_at k.items)) c.args.outer.now) (all_acts chart)) c.self.view_is)
+    (c.as_slice-5.ensures ∙ c.in_ok-counts.ensures ∙ ap (λ (k : Kept). map (open_now chart (items_at k.items) c.args.outer.now) (all_acts chart)) c.self.view_is)
     (c.as_slice-6.ensures ∙ c.in_ok-dones.ensures)
     (c.as_slice-7.ensures ∙ c.in_ok-there.ensures
-    ∙ ap (λ (l : List EventId). map (is_there_by l c.args.outer.now) (all_events chart)) (c.as_slice.ensures ∙ ap (λ (k : Kept). k.raised) c.self.view_is)))
+    ∙ ap (λ (l : List EventId). map (is_there l c.args.outer.now) (all_events chart)) (c.as_slice.ensures ∙ ap (λ (k : Kept). k.raised) c.self.view_is)))

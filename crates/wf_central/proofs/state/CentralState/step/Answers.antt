@@ -4,7 +4,7 @@ use Rattle.wf_semantics.specs.Shown.{HasSorts}
 use Rattle.wf_activities.specs.Stock.{AreOf, items_at}
 use Rattle.wf_central.specs.Kept.{Kept, central_of}
 use Rattle.wf_central.specs.Made.{MakesStep}
-use Rattle.wf_central.proofs.Same.{comes, room, took, took_numbers, items_made, started_made, next_is, next_of}
+use Rattle.wf_central.proofs.Same.{comes, room, took, took_numbers, items_made, started_made, steps_made, next_is, next_of}
 use Rattle.wf_central.proofs.state.CentralState.step.Goals as goal
 
 pub take_step-requires-clause-come : goal.take_step-requires-clause-come
@@ -32,6 +32,15 @@ returns-clause-state c =
     (items_made chart c.chart-chart.ensures.accepted kept c.take_step.new.self c.args.outer.now c.as_slice.result.now (c.as_slice.ensures ∙ made.starts)
     (took chart c.chart-chart.result.now c.self.inside.items c.take_step.new.self kept c.args.outer.now c.as_slice.result.now c.chart-chart.ensures.same (ap (λ (k : Kept). k.items) c.self.view_is) c.in_ok-starts.ensures.items))
     (ap (λ (k : Kept). k.taken + 1) c.self.view_is)
+
+pub returns-clause-steps : goal.returns-clause-steps
+returns-clause-steps c =
+    let chart = c.args.checked.now in
+    let kept = c.args.self.now in
+    let made : MakesStep chart (central_of chart kept) c.args.outer.now c.in_ok-after.after =
+    subst (λ (x : Chart). MakesStep x (central_of x kept) c.args.outer.now c.in_ok-after.after) c.chart-chart.ensures.same c.in_ok-after.ensures.step in
+    steps_made chart c.chart-chart.result.now c.self.inside.items c.take_step.new.self kept c.args.outer.now c.as_slice.result.now (c.self.inside.taken + 1)
+    c.chart-chart.ensures.same (ap (λ (k : Kept). k.items) c.self.view_is) (ap (λ (k : Kept). k.taken + 1) c.self.view_is) (c.as_slice.ensures ∙ made.starts) c.in_ok-starts.ensures.steps
 
 pub returns-clause-notes : goal.returns-clause-notes
 returns-clause-notes c =

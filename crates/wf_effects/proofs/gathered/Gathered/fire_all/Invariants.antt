@@ -1,5 +1,5 @@
 use Rattle.std.proofs.Common.{◌≡◌, drop, length}
-use Rattle.wf_effects.specs.Seeing.{numbers}
+use Rattle.wf_effects.specs.Numbers.{numbers}
 use Rattle.wf_effects.specs.Performing.{fired_all}
 use Rattle.wf_effects.proofs.gathered.Gathered.fire_all.Given as goal
 

@@ -1,0 +1,122 @@
+//! A central run: outers are admitted one by one, and a step takes all that were admitted before it.
+ghost use Rattle.std.specs.Prelude.{◌≡◌, ◌<◌, ◌+◌, ◌++◌, ◌==◌, filter, IfOk, OnOk, OnErr};
+ghost use Rattle.wf_model.specs.Accepted.{IsAccepted};
+ghost use Rattle.wf_model.specs.Limits.{max_steps};
+ghost use Rattle.wf_semantics.specs.Standing as spec;
+ghost use Rattle.wf_central.specs.Kept.{central_of, notes_of};
+ghost use Rattle.wf_central.specs.Standings.{standing_of, IsRun};
+
+use crate::CentralState;
+use std::alloc::Global;
+use std::marker::Model;
+use wf_model::{
+    Chart, Checked, Duplicate, Entry, List, NoMemory, Outer, OuterFault, StepNotes, UnitId,
+};
+
+/// Where a run of a chart stands: its state, and the outers that were admitted for the next step.
+#[derive(Drop)]
+pub struct CentralRun {
+    central: CentralState,
+    pending: List<Entry>,
+}
+
+impl Model for CentralRun {
+    ghost use Rattle.wf_central.specs.Standings.{KeptRun};
+
+    ghost Value = { KeptRun };
+
+    ghost view = { λ r. record { central = r.central; pending = r.pending } };
+}
+
+// Appends a copy of each entry of this unit.
+fn append_of(
+    alloc: Global,
+    ordered: &mut List<Entry>,
+    entries: &[Entry],
+    unit: UnitId,
+) -> Result<(), NoMemory>
+    ensures { OnOk result (ordered.new ≡ ordered.old ++ filter (λ x. x.unit.0 == unit.0) entries.now) }
+{
+    for entry in entries {
+        if entry.unit.0 == unit.0 {
+            ordered.push(entry.copy(alloc)?)?;
+        }
+    }
+    Ok(())
+}
+
+// The entries unit by unit. Grows with the entries times the units.
+fn in_unit_order(alloc: Global, chart: &Chart, entries: &[Entry]) -> Result<List<Entry>, NoMemory>
+    requires { IsAccepted chart.now }
+    ensures { IfOk result (λ ordered. ordered ≡ spec.in_unit_order chart.now entries.now) }
+{
+    let mut ordered = List::new(alloc);
+    for unit in 0..chart.units.len() {
+        append_of(alloc, &mut ordered, entries, UnitId(unit as u32))?;
+    }
+    Ok(ordered)
+}
+
+impl CentralRun {
+    /// The run before its first step, where nothing is pending. Works out the tables of the chart, once.
+    pub fn start(alloc: Global, checked: &Checked) -> Result<CentralRun, NoMemory>
+        ensures standing { IfOk result (λ run. standing_of checked.now run ≡ spec.first_standing checked.now) }
+        ensures of { IfOk result (λ run. IsRun checked.now run) }
+        ensures taken { IfOk result (λ run. run.central.taken ≡ 0) }
+    {
+        Ok(CentralRun {
+            central: CentralState::first(alloc, checked)?,
+            pending: List::new(alloc),
+        })
+    }
+
+    /// The state after the steps so far. Takes no memory.
+    pub fn state(&self) -> &CentralState
+        ensures { result.now ≡ self.now.central }
+    {
+        &self.central
+    }
+
+    /// Admits an outer at a unit for the next step, or answers why not, by the rule of `CentralState::may_admit`. A refusal
+    /// leaves the run as it is, and so does `NoMemory`. Grows with the pending entries and the outputs.
+    pub fn admit(
+        &mut self,
+        alloc: Global,
+        checked: &Checked,
+        unit: UnitId,
+        outer: &Outer,
+    ) -> Result<Result<(), OuterFault>, NoMemory>
+        requires { IsRun checked.now self.old }
+        ensures answer { IfOk result (λ a. a ≡ spec.admission checked.now (standing_of checked.now self.old) unit outer.now) }
+        ensures standing { OnOk result (standing_of checked.now self.new ≡ spec.after_admission checked.now (standing_of checked.now self.old) unit outer.now) }
+        ensures of { IsRun checked.now self.new }
+        ensures central { self.new.central ≡ self.old.central }
+        ensures err { OnErr result (self.new ≡ self.old) }
+    {
+        let admitted = self
+            .central
+            .may_admit(checked, self.pending.as_slice(), unit, outer);
+        if admitted.is_ok() {
+            let outer = outer.copy(alloc)?;
+            self.pending.push(Entry { unit, outer })?;
+        }
+        Ok(admitted)
+    }
+
+    /// Takes one step, in which all that is pending comes, unit by unit. Grows as `CentralState::step`, and with the pending
+    /// entries times the units. After `NoMemory` the run is as before.
+    pub fn step(&mut self, alloc: Global, checked: &Checked) -> Result<StepNotes, NoMemory>
+        requires of { IsRun checked.now self.old }
+        requires few { self.old.central.taken < max_steps }
+        ensures notes { IfOk result (λ n. n ≡ notes_of checked.now (central_of checked.now self.old.central) (spec.next_entries checked.now (standing_of checked.now self.old))) }
+        ensures standing { OnOk result (standing_of checked.now self.new ≡ spec.after_step checked.now (standing_of checked.now self.old)) }
+        ensures of { IsRun checked.now self.new }
+        ensures taken { OnOk result (self.new.central.taken ≡ self.old.central.taken + 1) }
+        ensures err { OnErr result (self.new ≡ self.old) }
+    {
+        let coming = in_unit_order(alloc, checked.chart(), self.pending.as_slice())?;
+        let notes = self.central.step(alloc, checked, coming.as_slice())?;
+        self.pending = List::new(alloc);
+        Ok(notes)
+    }
+}

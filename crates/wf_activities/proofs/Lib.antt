@@ -13,4 +13,3 @@ pub mod OpenCounts
 pub mod Numbering
 pub mod Adding
 pub mod Stepping
-pub mod Rooms

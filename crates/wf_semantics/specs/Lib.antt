@@ -11,3 +11,4 @@ pub mod Bits
 pub mod Flat
 pub mod Picks
 pub mod Laws
+pub mod Standing

@@ -2,10 +2,9 @@ use Rattle.std.proofs.Common.{◌≡◌, ◌∙◌, true, List, ap, ap₂, sym, 
 use Rattle.wf_model.specs.declared.outer.Entry.{Entry}
 use Rattle.wf_semantics.specs.Admission.{may_come}
 use Rattle.wf_central.specs.Kept.{central_of, notes_of}
-use Rattle.wf_audit.specs.CentralText.{in_unit_order}
-use Rattle.wf_audit.proofs.Orders.{ordered_may_come}
-use Rattle.wf_audit.proofs.Sights.{step_is}
-use Rattle.wf_audit.proofs.central.Run.step.Goals as goal
+use Rattle.wf_semantics.specs.Standing.{in_unit_order}
+use Rattle.wf_central.proofs.Orders.{ordered_may_come}
+use Rattle.wf_central.proofs.run.CentralRun.step.Goals as goal
 
 pub step-requires-clause-come : goal.step-requires-clause-come
 step-requires-clause-come c =
@@ -13,9 +12,7 @@ step-requires-clause-come c =
     subst (λ (entries : List Entry). may_come c.args.checked.now (central_of c.args.checked.now c.args.self.now.central).items entries ≡ true) (sym same)
     (ordered_may_come c.args.checked.now (central_of c.args.checked.now c.args.self.now.central) c.args.self.now.pending c.requires.sound.come)
 
-pub returns-clause-reply : goal.returns-clause-reply
-returns-clause-reply c =
-    step_is c.args.checked.now c.args.self.now.central c.args.self.now.pending c.in_ok-coming.coming c.taken.result c.in_ok-notes.notes
-    (c.taken.ensures ∙ c.in_ok-notes.ensures.taken)
-    (c.in_ok-coming.ensures ∙ ap₂ in_unit_order c.chart.ensures.same c.as_slice.ensures)
-    (c.in_ok-notes.ensures.notes ∙ ap (notes_of c.args.checked.now (central_of c.args.checked.now c.args.self.now.central)) c.as_slice-2.ensures)
+pub returns-clause-notes : goal.returns-clause-notes
+returns-clause-notes c =
+    let same = c.as_slice-2.ensures ∙ c.in_ok-coming.ensures ∙ ap₂ in_unit_order c.chart.ensures.same c.as_slice.ensures in
+    c.in_ok-notes.ensures.notes ∙ ap (notes_of c.args.checked.now (central_of c.args.checked.now c.args.self.now.central)) same

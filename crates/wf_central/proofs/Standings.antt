@@ -4,7 +4,7 @@ use Rattle.std.proofs.lemmas.Grind.{flat_map-append}
 use Rattle.std.specs.List.{range_with_len}
 use Rattle.wf_model.specs.declared.chart.Chart.{Chart}
 use Rattle.wf_model.proofs.Rows.{range_more}
-use Rattle.wf_semantics.specs.Run.{first_state}
+use Rattle.wf_semantics.specs.Run.{CentralState, first_state}
 use Rattle.wf_central.specs.Kept.{Kept, central_of}
 
 -- one more number makes one more piece

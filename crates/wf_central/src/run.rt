@@ -51,7 +51,8 @@ fn in_unit_order(alloc: Global, chart: &Chart, entries: &[Entry]) -> Result<List
 impl CentralRun {
     /// The run before its first step, where nothing is pending. Works out the tables of the chart, once.
     pub fn start(alloc: Global, checked: &Checked) -> Result<CentralRun, NoMemory>
-        ensures standing { IfOk result (λ run. standing_of checked.now run ≡ spec.first_standing checked.now) }
+        ensures standing { IfOk result (λ run.
+            standing_of checked.now run ≡ spec.first_standing checked.now) }
         ensures of { IfOk result (λ run. IsRun checked.now run) }
         ensures taken { IfOk result (λ run. taken_by run ≡ 0) }
     {
@@ -78,8 +79,10 @@ impl CentralRun {
         outer: &Outer,
     ) -> Result<Result<(), OuterFault>, NoMemory>
         requires { IsRun checked.now self.old }
-        ensures answer { IfOk result (λ a. a ≡ spec.admission checked.now (standing_of checked.now self.old) unit outer.now) }
-        ensures standing { OnOk result (standing_of checked.now self.new ≡ spec.after_admission checked.now (standing_of checked.now self.old) unit outer.now) }
+        ensures answer { IfOk result (λ a.
+            a ≡ spec.admission checked.now (standing_of checked.now self.old) unit outer.now) }
+        ensures standing { OnOk result (standing_of checked.now self.new
+            ≡ spec.after_admission checked.now (standing_of checked.now self.old) unit outer.now) }
         ensures of { IsRun checked.now self.new }
         ensures state { state_of self.new ≡ state_of self.old }
         ensures err { OnErr result (self.new ≡ self.old) }
@@ -102,8 +105,10 @@ impl CentralRun {
     pub fn step(&mut self, alloc: Global, checked: &Checked) -> Result<StepNotes, NoMemory>
         requires of { IsRun checked.now self.old }
         requires few { taken_by self.old < max_steps }
-        ensures notes { IfOk result (λ n. n ≡ notes_of checked.now (standing_of checked.now self.old).central (spec.next_entries checked.now (standing_of checked.now self.old))) }
-        ensures standing { OnOk result (standing_of checked.now self.new ≡ spec.after_step checked.now (standing_of checked.now self.old)) }
+        ensures notes { let before = standing_of checked.now self.old in
+            IfOk result (λ n. n ≡ notes_of checked.now before.central (spec.next_entries checked.now before)) }
+        ensures standing { OnOk result (standing_of checked.now self.new
+            ≡ spec.after_step checked.now (standing_of checked.now self.old)) }
         ensures of { IsRun checked.now self.new }
         ensures taken { OnOk result (taken_by self.new ≡ taken_by self.old + 1) }
         ensures err { OnErr result (self.new ≡ self.old) }

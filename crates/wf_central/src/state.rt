@@ -80,7 +80,7 @@ impl CentralState {
         snapshot::is_set(self.active.as_slice(), s.0 as usize)
     }
 
-    /// The value of a variable of the chart. A number that no variable has counts as a variable that is false. Takes no memory.
+    /// The value of a variable of the chart. Takes no memory.
     pub fn var(&self, v: VarId) -> Val
         ensures { (chart : AnyChart) → IsOf chart self.now → v.0 < length chart.vars → slice_get (central_of chart self.now).store v.0 ≡ Some result }
     {

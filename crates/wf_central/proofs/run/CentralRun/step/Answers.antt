@@ -10,7 +10,7 @@ pub step-requires-clause-come : goal.step-requires-clause-come
 step-requires-clause-come c =
     let same = c.as_slice-2.ensures ∙ c.in_ok-coming.ensures ∙ ap₂ in_unit_order c.chart.ensures.same c.as_slice.ensures in
     subst (λ (entries : List Entry). may_come c.args.checked.now (central_of c.args.checked.now c.args.self.now.central).items entries ≡ true) (sym same)
-    (ordered_may_come c.args.checked.now (central_of c.args.checked.now c.args.self.now.central) c.args.self.now.pending c.requires.sound.come)
+    (ordered_may_come c.args.checked.now (central_of c.args.checked.now c.args.self.now.central) c.args.self.now.pending c.requires.of.come)
 
 pub returns-clause-notes : goal.returns-clause-notes
 returns-clause-notes c =

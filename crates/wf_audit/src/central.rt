@@ -9,18 +9,16 @@ ghost use Rattle.wf_central.specs.Standings.{standing_of, taken_by, IsRun};
 use crate::reply::{Reply, reply_line};
 use crate::script::CentralLine;
 use std::alloc::Global;
-use thiserror::Error;
 use wf_central::{CentralRun, CentralState};
 use wf_model::limits::MAX_REPORT;
 use wf_model::{Bytes, Chart, Checked, List, NoMemory, OuterFault, Output, StateId, VarId};
 
 /// Why a run has no text.
-#[derive(Clone, Copy, Debug, Error)]
+#[derive(Clone, Copy)]
 pub enum RunFault {
     /// The text has more than `MAX_REPORT` bytes.
-    #[error("text too long")]
     TooLong,
-    #[error("out of memory")]
+    /// Memory ran out.
     NoMemory,
 }
 

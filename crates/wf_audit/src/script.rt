@@ -12,7 +12,6 @@ use crate::names::Names;
 use crate::outer::outer_of;
 use crate::values::text_at;
 use std::alloc::Global;
-use thiserror::Error;
 use wf_lex::{LexFault, Token, line_tokens};
 use wf_model::{Checked, List, NoMemory, Outer, UnitId};
 
@@ -28,12 +27,11 @@ pub enum CentralLine {
 }
 
 /// Why a script has no lines.
-#[derive(Clone, Copy, Debug, Error)]
+#[derive(Clone, Copy)]
 pub enum ScriptFault {
     /// The first line outside the grammar, counted from 1.
-    #[error("line {line}")]
     Refused { line: u32 },
-    #[error("out of memory")]
+    /// Memory ran out.
     NoMemory,
 }
 

@@ -1,9 +1,7 @@
-//! The calls below the top call, each over a small chart that is read from its text.
+//! The calls that no command makes, each over small charts that are read from their texts.
 #![tactic(auto)]
 
 #[cfg(test)]
 mod by_hand;
-#[cfg(test)]
-mod calls;
 #[cfg(test)]
 mod printed;

@@ -13,11 +13,14 @@ use wf_text::read_chart;
 fn printed(alloc: Global, text: &[u8]) -> Result<Bytes, Fail>
     requires { length text.now ≤ max_input }
 {
-    let checked = check(alloc, read_chart(alloc, text)?)?;
+    let chart = read_chart(alloc, text).ok().ok_or("no chart")?;
+    let checked = check(alloc, chart).ok().ok_or("not accepted")?;
     Ok(print_chart(alloc, &checked)?)
 }
 
 const SINGLE: &str = "chart m; unit a; or R at a { basic S at a; }";
+
+const FIVE_LINES: &str = "chart m;\nunit a;\nor R at a {\n  basic S at a;\n}\n";
 
 /// A chart with all kinds of parts, as it is printed.
 const CANONICAL: &str = "chart m;
@@ -47,10 +50,10 @@ from A to D on fault if ((n >= 7) = (w != \"x\"));
 
 #[test]
 fn canonical(rt: HostRuntime) -> Result<(), Fail> {
-    let single = printed(rt.alloc(), SINGLE.as_bytes())?;
-    let five = "chart m;\nunit a;\nor R at a {\n  basic S at a;\n}\n";
-    assert_eq!(rt; single.as_slice(), five.as_bytes());
-    let again = printed(rt.alloc(), CANONICAL.as_bytes())?;
-    assert_eq!(rt; again.as_slice(), CANONICAL.as_bytes());
+    let rows = [(SINGLE, FIVE_LINES), (CANONICAL, CANONICAL)];
+    for (text, wanted) in rows {
+        let found = printed(rt.alloc(), text.as_bytes())?;
+        assert_eq!(rt; found.as_slice(), wanted.as_bytes());
+    }
     Ok(())
 }

@@ -92,8 +92,6 @@ module _ (c : Chart) where
       let p5 = and_parts _ _ p4.1 in
       let p6 = and_parts _ _ p5.1 in
       let p7 = and_parts _ _ p6.1 in
-      let p8 = and_parts _ _ p7.1 in
-      let p9 = and_parts _ _ p8.1 in
       record {
         units = leb-true (length c.units) max_units p1.0;
         events = leb-true (length c.events) max_events p2.0;
@@ -102,7 +100,6 @@ module _ (c : Chart) where
         states = leb-true (length c.states) max_states p5.0;
         transitions = leb-true (length c.transitions) max_transitions p6.0;
         few_actions = p7.0;
-        small_exprs = p9.0;
       }
 
   -- NUMBERS

@@ -1,8 +1,7 @@
 -- What the checker answers: the first rule that a chart breaks.
-use Rattle.std.specs.Prelude.{◌≡◌, ◌≢◌, [], ◌∷◌, Option, Some, None, Result, Ok, Err}
+use Rattle.std.specs.Prelude.{[], ◌∷◌, Option, Some, None, Result, Ok, Err}
 use Rattle.wf_model.specs.declared.chart.Chart.{Chart}
 use Rattle.wf_check.specs.declared.fault.CheckFault.{CheckFault}
-use Rattle.wf_check.specs.declared.fault.CheckFault.TheVariants.{NoMemory}
 use Rattle.wf_check.specs.Firsts.{first_some}
 use Rattle.wf_check.specs.Limited.{size_fault}
 use Rattle.wf_check.specs.Numbered.{number_fault}
@@ -21,8 +20,3 @@ checked_by chart (Some fault) = Err fault
 -- the chart, or its first fault
 unfoldable pub checked_of : Chart → Result Chart CheckFault
 checked_of chart = checked_by chart (first_fault chart)
-
--- what a checker answers beside what it is to answer: want of memory is free
-abbrev pub Gives : Result Chart CheckFault → Result Chart CheckFault → Type 0
-Gives (Ok chart) wanted = wanted ≡ Ok chart
-Gives (Err e) wanted = e ≢ NoMemory → wanted ≡ Err e

@@ -50,4 +50,3 @@ pub record AreFew (c : Chart) : Type 0 where
   pub states : length c.states ≤ max_states
   pub transitions : length c.transitions ≤ max_transitions
   pub few_actions : list_all has_few_actions c.transitions ≡ true
-  pub small_exprs : list_all has_small_exprs c.transitions ≡ true

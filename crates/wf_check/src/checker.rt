@@ -1,7 +1,7 @@
 //! The checker: the first rule that a chart breaks, and seals for charts that break none.
 ghost use Rattle.std.specs.Prelude.{◌≡◌, IfOk};
 ghost use Rattle.wf_check.specs.FirstFault as spec;
-ghost use Rattle.wf_check.specs.FirstFault.{Gives};
+ghost use Rattle.wf_model.specs.Steps.{Gives};
 
 use crate::CheckFault;
 use crate::names::name_fault;
@@ -17,7 +17,7 @@ use wf_model::{Chart, Checked, NoMemory};
 /// Linear in the chart on average, but for the states, which count by their depth.
 #[tactic(auto, using(crate::proofs::Faultless::faultless), unfolding(crate::specs::FirstFault::checked_of))]
 pub fn check(alloc: Global, chart: Chart) -> Result<Checked, CheckFault>
-    ensures { Gives result (spec.checked_of chart) }
+    ensures { Gives CheckFault.NoMemory result (spec.checked_of chart) }
 {
     match first_fault(alloc, &chart)? {
         Some(fault) => Err(fault),

@@ -1,10 +1,8 @@
 //! Whether the numbers in transitions are those of parts of the chart.
-ghost use Rattle.std.specs.Prelude.{◌≡◌, IsTrue, length, nat_le, nat_lt};
+ghost use Rattle.std.specs.Prelude.{◌≡◌, length, nat_lt};
 ghost use Rattle.std.specs.List.{list_all};
-ghost use Rattle.wf_check.specs.Limited.{has_small_exprs};
 ghost use Rattle.wf_check.specs.Numbered as numbered;
 ghost use Rattle.wf_model.specs.Accepted as spec;
-ghost use Rattle.wf_model.specs.Limits.{max_nodes};
 
 use wf_expr::is_known_expr;
 use wf_model::{ActId, Action, Chart, EventId, Expr, StateId, Transition, VarId};
@@ -31,7 +29,6 @@ fn is_event_or_none(chart: &Chart, event: Option<EventId>) -> bool
 }
 
 fn is_known_guard(chart: &Chart, guard: &Option<Expr>) -> bool
-    requires { IsTrue (spec.all_of (λ x. nat_le (spec.nodes x) max_nodes) guard.now) }
     ensures { result ≡ spec.all_of (spec.is_known_expr chart.now) guard.now }
 {
     match guard {
@@ -41,7 +38,6 @@ fn is_known_guard(chart: &Chart, guard: &Option<Expr>) -> bool
 }
 
 fn is_known_action(chart: &Chart, action: &Action) -> bool
-    requires { IsTrue (spec.is_small_action action.now) }
     ensures { result ≡ spec.is_known_action chart.now action.now }
 {
     match action {
@@ -52,9 +48,8 @@ fn is_known_action(chart: &Chart, action: &Action) -> bool
     }
 }
 
-#[tactic(auto, using(crate::proofs::Found::all_at, crate::proofs::Found::all_step))]
+#[tactic(auto, using(crate::proofs::Found::all_step))]
 fn are_known_actions(chart: &Chart, actions: &[Action]) -> bool
-    requires { IsTrue (list_all spec.is_small_action actions.now) }
     ensures { result ≡ list_all (spec.is_known_action chart.now) actions.now }
 {
     for action in actions {
@@ -66,7 +61,6 @@ fn are_known_actions(chart: &Chart, actions: &[Action]) -> bool
 }
 
 fn is_known_transition(chart: &Chart, transition: &Transition) -> bool
-    requires { IsTrue (has_small_exprs transition.now) }
     ensures { result ≡ spec.is_known_transition chart.now transition.now }
 {
     is_state(chart, transition.source)
@@ -77,9 +71,8 @@ fn is_known_transition(chart: &Chart, transition: &Transition) -> bool
 }
 
 /// The first transition that names a part that isn't there. Linear in the transitions.
-#[tactic(auto, using(crate::proofs::Found::all_at, crate::proofs::Found::position_step))]
+#[tactic(auto, using(crate::proofs::Found::position_step))]
 pub fn bad_transition(chart: &Chart) -> Option<usize>
-    requires { IsTrue (list_all has_small_exprs chart.now.transitions) }
     ensures { result ≡ numbered.bad_transition chart.now }
 {
     let transitions = chart.transitions.as_slice();

@@ -1,20 +1,16 @@
 //! The faults of transitions.
-ghost use Rattle.std.specs.Prelude.{◌≡◌, ◌<◌, ◌≤◌, ◌^◌, IsTrue, length, nat_le};
-ghost use Rattle.std.specs.List.{list_all};
-ghost use Rattle.wf_check.specs.Limited.{AreFew, has_few_actions, has_small_exprs};
+ghost use Rattle.std.specs.Prelude.{◌≡◌, ◌<◌, ◌^◌, IsTrue, length};
+ghost use Rattle.wf_check.specs.Limited.{AreFew, has_few_actions};
 ghost use Rattle.wf_check.specs.Firsts.{first_from};
 ghost use Rattle.wf_check.specs.Sorted as sorted;
-ghost use Rattle.wf_model.specs.Sorts as sorts;
 ghost use Rattle.wf_model.specs.Accepted as spec;
-ghost use Rattle.wf_model.specs.Limits.{max_nodes};
 
 use crate::sorts::alike;
 use crate::{CheckFault, TypePlace};
 use wf_expr::type_of;
-use wf_model::{Action, Chart, Expr, Sort, TransId, Transition, VarId};
+use wf_model::{Action, Chart, Expr, Sort, TransId, Transition};
 
 fn has_sort(chart: &Chart, e: &Expr, sort: Sort) -> bool
-    requires { spec.nodes e.now ≤ max_nodes }
     ensures { result ≡ spec.has_sort chart.now e.now sort }
 {
     match type_of(e, chart) {
@@ -23,17 +19,7 @@ fn has_sort(chart: &Chart, e: &Expr, sort: Sort) -> bool
     }
 }
 
-fn var_sort(chart: &Chart, x: VarId) -> Option<Sort>
-    ensures { result ≡ sorts.var_sort chart.now x.0 }
-{
-    match chart.vars.get(x.0 as usize) {
-        Some(var) => Some(var.sort),
-        None => None,
-    }
-}
-
 fn is_sorted_guard(chart: &Chart, guard: &Option<Expr>) -> bool
-    requires { IsTrue (spec.all_of (λ x. nat_le (spec.nodes x) max_nodes) guard.now) }
     ensures { result ≡ spec.all_of (λ x. spec.has_sort chart.now x Sort.Bool) guard.now }
 {
     match guard {
@@ -43,11 +29,10 @@ fn is_sorted_guard(chart: &Chart, guard: &Option<Expr>) -> bool
 }
 
 fn is_sorted_action(chart: &Chart, action: &Action) -> bool
-    requires { IsTrue (spec.is_small_action action.now) }
     ensures { result ≡ spec.is_sorted_action chart.now action.now }
 {
     match action {
-        Action::Assign(x, value) => match var_sort(chart, *x) {
+        Action::Assign(x, value) => match chart.var_sort(*x) {
             Some(sort) => has_sort(chart, value, sort),
             None => true,
         },
@@ -56,9 +41,8 @@ fn is_sorted_action(chart: &Chart, action: &Action) -> bool
 }
 
 /// The first action that assigns a value of another sort.
-#[tactic(auto, using(crate::proofs::Found::all_at, crate::proofs::Found::position_step))]
+#[tactic(auto, using(crate::proofs::Found::position_step))]
 fn unlike_action(chart: &Chart, transition: &Transition) -> Option<usize>
-    requires { IsTrue (list_all spec.is_small_action transition.now.actions) }
     ensures { result ≡ sorted.unlike_action chart.now transition.now }
 {
     let actions = transition.actions.as_slice();
@@ -73,8 +57,7 @@ fn unlike_action(chart: &Chart, transition: &Transition) -> Option<usize>
 /// The first rule that transition `t` breaks.
 #[tactic(auto, using(crate::proofs::Found::action_fits), unfolding(crate::specs::Sorted::transition_fault))]
 fn transition_fault(chart: &Chart, t: TransId, transition: &Transition) -> Option<CheckFault>
-    requires small { IsTrue (has_small_exprs transition.now) }
-    requires few { IsTrue (has_few_actions transition.now) }
+    requires { IsTrue (has_few_actions transition.now) }
     ensures { result ≡ sorted.transition_fault chart.now t.0 transition.now }
 {
     if transition.source.0 == 0 {

@@ -23,14 +23,14 @@ pub fn shape_fault(chart: &Chart) -> Option<CheckFault>
     if chart.states.is_empty() {
         return Some(CheckFault::NoRoot);
     }
-    if !is_or(kind(chart, 0)) {
+    if !chart.kind(StateId(0)).is_or() {
         return Some(CheckFault::RootNotOr);
     }
     if let Some(s) = deep_state(chart) {
         return Some(CheckFault::TooDeep { state: state_id(s) });
     }
-    let s = unfit_state(chart)?;
-    Some(unfit(kind(chart, s), state_id(s)))
+    let state = state_id(unfit_state(chart)?);
+    Some(unfit(chart.kind(state), state))
 }
 
 fn state_id(s: usize) -> StateId
@@ -38,24 +38,6 @@ fn state_id(s: usize) -> StateId
     ensures { result ≡ ids.state_id s }
 {
     StateId(s as u32)
-}
-
-fn kind(chart: &Chart, s: usize) -> Kind
-    ensures { result ≡ tree.kind chart.now s }
-{
-    match chart.states.get(s) {
-        Some(state) => state.kind,
-        None => Kind::Basic,
-    }
-}
-
-fn is_or(kind: Kind) -> bool
-    ensures { result ≡ tree.is_or kind }
-{
-    match kind {
-        Kind::Or => true,
-        Kind::Basic | Kind::And => false,
-    }
 }
 
 fn unfit(kind: Kind, state: StateId) -> CheckFault

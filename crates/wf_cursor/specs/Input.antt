@@ -297,8 +297,14 @@ pub record HasRoom (i : Input) : Type 0 where
 unfoldable pub chart_with : List ℕ → List Transition → Input → Chart
 chart_with chart_name found i = record { name = chart_name; units = i.units; events = i.events; vars = i.vars; acts = i.acts; states = i.states; transitions = found }
 
--- ---- what a function of the reader ensures: the rule's outcome, unless memory runs out
+-- ---- what a function of the reader ensures
 
+-- the rule's outcome
+abbrev pub ReadsExactly : {A : Type 0} → Outcome A → Result A TextFault → Input → Type 0
+ReadsExactly outcome (Ok a) new = outcome ≡ Ok (a, new)
+ReadsExactly outcome (Err e) new = outcome ≡ Err e
+
+-- the rule's outcome, unless memory runs out
 abbrev pub Reads : {A : Type 0} → Outcome A → Result A TextFault → Input → Type 0
 Reads outcome (Ok a) new = outcome ≡ Ok (a, new)
 Reads outcome (Err e) new = e ≢ NoMemory → outcome ≡ Err e

@@ -1,7 +1,8 @@
 //! A cursor over the tokens of a text.
 ghost use Rattle.std.specs.Prelude.{◌≡◌, ◌≤◌, ◌<◌, ◌^◌, true, None, length, drop, slice_range, IfOk, IfSome, OnOk, OnErr};
+ghost use Rattle.wf_model.specs.Limits.{max_tokens};
 ghost use Rattle.wf_cursor.specs.Input as spec;
-ghost use Rattle.wf_cursor.specs.Input.{Reads, HasRoom, chart_with};
+ghost use Rattle.wf_cursor.specs.Input.{Reads, ReadsExactly, HasRoom, chart_with};
 
 use crate::TextFault;
 use crate::names::{Declared, Names};
@@ -20,7 +21,8 @@ use wf_model::{
 ///
 /// A call that takes a token of a kind answers `Syntax` where the next token is of another kind or there is none. Then
 /// `Oversize` comes where it is too large: a name of over 32 bytes, a Text of over 64 characters, an Int above its
-/// limit. Then come `UnknownName` and `DoubleName`. After a fault no more is to be read: which tokens are left is free.
+/// limit. Then come `UnknownName` and `DoubleName`. At a fault, running out of memory included, a call leaves the
+/// cursor as it was.
 #[derive(Drop)]
 pub struct Cursor<'a> {
     text: &'a [u8],
@@ -187,7 +189,8 @@ impl<'a> Cursor<'a> {
     /// Takes the next token, which has to be this one.
     #[tactic(auto, unfolding(crate::specs::Input::expect))]
     pub fn expect(&mut self, piece: Piece) -> Result<(), TextFault>
-        ensures reads { Reads (spec.expect piece self.old) result self.new }
+        ensures reads { ReadsExactly (spec.expect piece self.old) result self.new }
+        ensures stays { OnErr result (self.new ≡ self.old) }
         ensures room { OnOk result (HasRoom self.new) }
     {
         if self.sees(piece) {
@@ -201,7 +204,7 @@ impl<'a> Cursor<'a> {
     /// The next token has to be a name that isn't too long.
     #[tactic(auto, unfolding(crate::specs::Input::name_ahead))]
     fn name_ahead(&self) -> Result<(), TextFault>
-        ensures reads { Reads (spec.name_ahead self.now) result self.now }
+        ensures reads { ReadsExactly (spec.name_ahead self.now) result self.now }
         ensures some { OnOk result (0 < length self.now.left) }
     {
         if !self.sees(Piece::Name) {
@@ -216,7 +219,8 @@ impl<'a> Cursor<'a> {
     /// Takes a name, whether it is declared or not.
     #[tactic(auto, unfolding(crate::specs::Input::name))]
     pub fn name(&mut self, alloc: Global) -> Result<Name, TextFault>
-        ensures { Reads (spec.name self.old) result self.new }
+        ensures reads { Reads (spec.name self.old) result self.new }
+        ensures stays { OnErr result (self.new ≡ self.old) }
     {
         self.name_ahead()?;
         let name = Name::new(alloc, self.spelling())?;
@@ -235,7 +239,8 @@ impl<'a> Cursor<'a> {
     #[tactic(auto, unfolding(crate::specs::Input::with_name, crate::specs::Input::declared))]
     fn declare(&mut self, alloc: Global, what: Declared) -> Result<(), NoMemory>
         requires { spec.declared self.old ≡ None }
-        ensures { OnOk result (self.new ≡ spec.with_name what self.old) }
+        ensures ok { OnOk result (self.new ≡ spec.with_name what self.old) }
+        ensures err { OnErr result (self.new ≡ self.old) }
     {
         let name = self.spelling();
         self.names.declare(alloc, name, what)
@@ -245,7 +250,8 @@ impl<'a> Cursor<'a> {
     /// beside the bytes of the name.
     #[tactic(auto, unfolding(crate::specs::Input::new_name))]
     pub fn new_name(&mut self, alloc: Global, what: Declared) -> Result<Name, TextFault>
-        ensures { Reads (spec.new_name what self.old) result self.new }
+        ensures reads { Reads (spec.new_name what self.old) result self.new }
+        ensures stays { OnErr result (self.new ≡ self.old) }
     {
         self.name_ahead()?;
         if self.declared().is_some() {
@@ -260,7 +266,8 @@ impl<'a> Cursor<'a> {
     /// Takes the name of a unit.
     #[tactic(auto, unfolding(crate::specs::Input::unit))]
     pub fn unit(&mut self) -> Result<UnitId, TextFault>
-        ensures reads { Reads (spec.unit self.old) result self.new }
+        ensures reads { ReadsExactly (spec.unit self.old) result self.new }
+        ensures stays { OnErr result (self.new ≡ self.old) }
         ensures room { OnOk result (HasRoom self.new) }
     {
         self.name_ahead()?;
@@ -276,7 +283,8 @@ impl<'a> Cursor<'a> {
     /// Takes the name of an event.
     #[tactic(auto, unfolding(crate::specs::Input::event))]
     pub fn event(&mut self) -> Result<EventId, TextFault>
-        ensures { Reads (spec.event self.old) result self.new }
+        ensures reads { ReadsExactly (spec.event self.old) result self.new }
+        ensures stays { OnErr result (self.new ≡ self.old) }
     {
         self.name_ahead()?;
         match self.declared() {
@@ -291,7 +299,8 @@ impl<'a> Cursor<'a> {
     /// Takes the name of a variable.
     #[tactic(auto, unfolding(crate::specs::Input::variable))]
     pub fn variable(&mut self) -> Result<VarId, TextFault>
-        ensures { Reads (spec.variable self.old) result self.new }
+        ensures reads { ReadsExactly (spec.variable self.old) result self.new }
+        ensures stays { OnErr result (self.new ≡ self.old) }
     {
         self.name_ahead()?;
         match self.declared() {
@@ -306,7 +315,8 @@ impl<'a> Cursor<'a> {
     /// Takes the name of an activity.
     #[tactic(auto, unfolding(crate::specs::Input::activity))]
     pub fn activity(&mut self) -> Result<ActId, TextFault>
-        ensures { Reads (spec.activity self.old) result self.new }
+        ensures reads { ReadsExactly (spec.activity self.old) result self.new }
+        ensures stays { OnErr result (self.new ≡ self.old) }
     {
         self.name_ahead()?;
         match self.declared() {
@@ -321,7 +331,8 @@ impl<'a> Cursor<'a> {
     /// Takes the name of a state.
     #[tactic(auto, unfolding(crate::specs::Input::state))]
     pub fn state(&mut self) -> Result<StateId, TextFault>
-        ensures { Reads (spec.state self.old) result self.new }
+        ensures reads { ReadsExactly (spec.state self.old) result self.new }
+        ensures stays { OnErr result (self.new ≡ self.old) }
     {
         self.name_ahead()?;
         match self.declared() {
@@ -337,7 +348,8 @@ impl<'a> Cursor<'a> {
     #[tactic(auto, unfolding(crate::specs::Input::int_up_to))]
     fn int_up_to(&mut self, most: u64) -> Result<u64, TextFault>
         requires { most < u64.MAX }
-        ensures reads { Reads (spec.int_up_to most self.old) result self.new }
+        ensures reads { ReadsExactly (spec.int_up_to most self.old) result self.new }
+        ensures stays { OnErr result (self.new ≡ self.old) }
         ensures fits { IfOk result (λ number. number ≤ most) }
     {
         if !self.sees(Piece::Int) {
@@ -355,7 +367,8 @@ impl<'a> Cursor<'a> {
     /// Takes an Int of at most 9223372036854775807.
     #[tactic(auto, unfolding(crate::specs::Input::int))]
     pub fn int(&mut self) -> Result<u64, TextFault>
-        ensures reads { Reads (spec.int self.old) result self.new }
+        ensures reads { ReadsExactly (spec.int self.old) result self.new }
+        ensures stays { OnErr result (self.new ≡ self.old) }
         ensures fits { IfOk result (λ number. number < 2 ^ 63) }
     {
         self.int_up_to(MAX_INT)
@@ -364,7 +377,8 @@ impl<'a> Cursor<'a> {
     /// Takes an Int that stands behind the `-` of a literal, so of at most 9223372036854775808.
     #[tactic(auto, unfolding(crate::specs::Input::negated_int))]
     pub fn negated_int(&mut self) -> Result<u64, TextFault>
-        ensures reads { Reads (spec.negated_int self.old) result self.new }
+        ensures reads { ReadsExactly (spec.negated_int self.old) result self.new }
+        ensures stays { OnErr result (self.new ≡ self.old) }
         ensures fits { IfOk result (λ number. number ≤ 2 ^ 63) }
     {
         self.int_up_to(MAX_INT + 1)
@@ -373,7 +387,8 @@ impl<'a> Cursor<'a> {
     /// Takes a Text of at most 64 characters.
     #[tactic(auto, unfolding(crate::specs::Input::text))]
     pub fn text(&mut self) -> Result<Txt, TextFault>
-        ensures { Reads (spec.text self.old) result self.new }
+        ensures reads { ReadsExactly (spec.text self.old) result self.new }
+        ensures stays { OnErr result (self.new ≡ self.old) }
     {
         if !self.sees(Piece::Text) {
             return Err(self.syntax());
@@ -398,7 +413,8 @@ impl<'a> Cursor<'a> {
     /// Counts the node that the next token makes: `Oversize` where that is node 65 of the expression. Takes no token.
     #[tactic(auto, unfolding(crate::specs::Input::node))]
     pub fn node(&mut self) -> Result<(), TextFault>
-        ensures reads { Reads (spec.node self.old) result self.new }
+        ensures reads { ReadsExactly (spec.node self.old) result self.new }
+        ensures stays { OnErr result (self.new ≡ self.old) }
         ensures left { self.new.left ≡ self.old.left }
     {
         if self.nodes < MAX_NODES {

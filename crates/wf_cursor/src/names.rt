@@ -8,7 +8,7 @@ use std::marker::Model;
 use wf_model::{ActId, EventId, NoMemory, StateId, UnitId, VarId};
 
 /// What a name is declared as.
-#[derive(Clone, Copy, Debug, PartialEq, Eq)]
+#[derive(Clone, Copy)]
 pub enum Declared {
     Unit(UnitId),
     Event(EventId),

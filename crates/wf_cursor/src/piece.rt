@@ -6,7 +6,7 @@ ghost use Rattle.wf_cursor.specs.Pieces as spec;
 use wf_lex::TokenKind;
 
 /// What a token is to the grammar: a reserved word, a sign, a name, an Int or a Text.
-#[derive(Clone, Copy, Debug, PartialEq, Eq)]
+#[derive(Clone, Copy, PartialEq, Eq)]
 pub enum Piece {
     Chart,
     Unit,

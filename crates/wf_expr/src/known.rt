@@ -1,15 +1,13 @@
 //! Whether the numbers that an expression names are those of parts of the chart.
-ghost use Rattle.std.specs.Prelude.{◌≡◌, ◌≤◌, nat_lt, length};
+ghost use Rattle.std.specs.Prelude.{◌≡◌, nat_lt, length};
 ghost use Rattle.wf_model.specs.Accepted as spec;
-ghost use Rattle.wf_model.specs.Limits.{max_nodes};
 
 use wf_model::{Chart, Expr};
 
 /// Whether every number in the expression is that of a variable, a state or an activity of the chart. Linear in the
 /// nodes.
-#[tactic(auto, using(wf_model::specs::declared::expr::Expr::the_lemmas, wf_model::specs::NodesLaws::node_laws, wf_model::specs::NodesLaws::known_laws))]
+#[tactic(auto, using(wf_model::specs::declared::expr::Expr::the_lemmas, wf_model::specs::NodesLaws::known_laws))]
 pub fn is_known_expr(e: &Expr, chart: &Chart) -> bool
-    requires { spec.nodes e.now ≤ max_nodes }
     ensures { result ≡ spec.is_known_expr chart.now e.now }
 {
     match e {

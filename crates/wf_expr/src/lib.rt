@@ -6,8 +6,6 @@ mod known;
 mod size;
 mod snapshot;
 mod sorts;
-#[cfg(test)]
-mod tests;
 mod values;
 
 pub use known::is_known_expr;

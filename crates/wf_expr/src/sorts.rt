@@ -1,17 +1,14 @@
 //! The sort of an expression.
-ghost use Rattle.std.specs.Prelude.{◌≡◌, ◌≤◌, ◌^◌, nat_lt, if◌then◌else◌};
-ghost use Rattle.wf_model.specs.Accepted.{nodes};
+ghost use Rattle.std.specs.Prelude.{◌≡◌, ◌^◌, nat_lt, if◌then◌else◌};
 ghost use Rattle.wf_model.specs.Sorts as spec;
-ghost use Rattle.wf_model.specs.Limits.{max_nodes};
 
 use wf_model::{Chart, Expr, Op, Sort, TypeFault};
 
 /// The sort of an expression over the chart's variables. `Mismatch` exactly where an operand has another sort than its
 /// operator takes, an integer is over 9223372036854775807, or the chart has no such variable. Linear in the nodes, and
 /// takes no memory.
-#[tactic(auto, using(wf_model::specs::declared::expr::Expr::the_lemmas, wf_model::specs::SortsLaws::sort_laws, wf_model::specs::NodesLaws::node_laws))]
+#[tactic(auto, using(wf_model::specs::declared::expr::Expr::the_lemmas, wf_model::specs::SortsLaws::sort_laws))]
 pub fn type_of(e: &Expr, chart: &Chart) -> Result<Sort, TypeFault>
-    requires { nodes e.now ≤ max_nodes }
     ensures { result ≡ spec.sort_of (spec.var_sort chart.now) e.now }
 {
     match e {

@@ -12,7 +12,7 @@ use Rattle.wf_cursor.specs.Input.{Input, Outcome, Parser, and_then, ◌>>=◌, �
 use Rattle.wf_text.specs.Declarations.{declarations}
 use Rattle.wf_text.specs.States.{root}
 use Rattle.wf_text.specs.Transitions.{transitions}
-use Rattle.wf_text.specs.Text.{finished, contents, whole, with_place, chart_from, chart_of}
+use Rattle.wf_text.specs.Text.{text_end, contents, whole, with_place, chart_from, chart_of}
 use Rattle.wf_grammar.specs.Lexemes.{Lexeme, lexeme_of}
 use Rattle.wf_grammar.specs.Phrases.{Is}
 use Rattle.wf_grammar.specs.Scopes.{Scope, first_scope}
@@ -36,7 +36,7 @@ any_name_then i left at count f y j h = name_then i left at count (λ _ k. f (sp
 
 -- no token was left
 end_then : {B : Type 0} (i : Input) (left : List Token) (at count : ℕ) (f : Unit {0} → Parser B) (y : B) (j : Input)
-    → and_then (finished (here i left at count)) f ≡ Ok (y, j) → (left ≡ []) × (f tt (here i left at count) ≡ Ok (y, j))
+    → and_then (text_end (here i left at count)) f ≡ Ok (y, j) → (left ≡ []) × (f tt (here i left at count) ≡ Ok (y, j))
 end_then i [] at count f y j h = (refl, h)
 end_then i (t ∷ rest) at count f y j h =
     let some : nat_lt 0 (length (t ∷ rest)) ≡ true = grind (arith, nat_tests) in
@@ -51,7 +51,7 @@ Contents = List ℕ × List Transition
 abbrev last_rules : List ℕ → Parser Contents
 last_rules name = do
   found ← transitions
-  finished
+  text_end
   pure (name, found)
 
 abbrev late_rules : List ℕ → Parser Contents

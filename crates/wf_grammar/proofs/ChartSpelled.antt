@@ -11,7 +11,7 @@ use Rattle.wf_cursor.specs.declared.piece.Piece.TheVariants as pieces
 use Rattle.wf_cursor.specs.Input as input
 use Rattle.wf_cursor.specs.Input.{Input, Outcome, Parser, and_then, ◌>>=◌, ◌>>◌, pure, next, spelling, name_ahead, start_of, chart_with}
 use Rattle.wf_text.specs.declared.chart_fault.ChartFault.{ChartFault}
-use Rattle.wf_text.specs.Text.{finished, contents, whole, with_place, chart_from, chart_of}
+use Rattle.wf_text.specs.Text.{text_end, contents, whole, with_place, chart_from, chart_of}
 use Rattle.wf_grammar.specs.Lexemes.{Lexeme, lexeme_of}
 use Rattle.wf_grammar.specs.Phrases.{Names, Is}
 use Rattle.wf_grammar.specs.Laws.{first_piece}
@@ -22,7 +22,8 @@ use Rattle.wf_grammar.specs.Drawing.{word_of_kind, Root}
 use Rattle.wf_grammar.specs.Moving as moving
 use Rattle.wf_grammar.specs.Moving.{Transitions}
 use Rattle.wf_grammar.specs.Charts.{IsChart, is_chart}
-use Rattle.wf_grammar.specs.ChartLaws.{BeginsNoDeclaration, BeginsNoState, ChartSpelledIsRead, SpellsOneChart}
+use Rattle.wf_grammar.specs.ChartLaws.{ChartSpelledIsRead, SpellsOneChart}
+use Rattle.wf_grammar.proofs.Rules.{BeginsNoDeclaration, BeginsNoState}
 use Rattle.wf_grammar.proofs.Inputs.{here, spelling_here, next_here, is_fit}
 use Rattle.wf_grammar.proofs.SpellSteps.{sees_here, headed, emptied}
 use Rattle.wf_grammar.proofs.Places.{within}
@@ -107,8 +108,8 @@ any_name_gives text s w ws left at count is is_name is_short =
           (rw short (rw is_word (ap (λ (k : Input). Ok (w.bytes, k)) (next_here i h.token h.rest at count))));
     })
 
-finished_gives : (text : List ℕ) (s : Scope) (left : List Token) (at count : ℕ) → map (lexeme_of text) left ≡ [] → Gave text s tt [] (finished (here (within text s) left at count))
-finished_gives text s left at count is =
+text_end_gives : (text : List ℕ) (s : Scope) (left : List Token) (at count : ℕ) → map (lexeme_of text) left ≡ [] → Gave text s tt [] (text_end (here (within text s) left at count))
+text_end_gives text s left at count is =
     rw (emptied (lexeme_of text) left is) (record { rest = []; at = at; count = count; rest_is = refl; gives = refl })
 
 contents_give : (text : List ℕ) (s s' : Scope) (found : List Transition) (ds ss ts : List Lexeme) (word n ends : Lexeme)
@@ -125,7 +126,7 @@ contents_give text s s' found ds ss ts word n ends is_chart_word is_name is_shor
     then_gives text s s' _ _ _ _ _ _ (declarations_give text first_scope s ds declared (ss ++ ts) (root_begins s drawn ts late) rest at count is) (λ rest at count is.
     then_gives text s' s' _ _ _ _ _ _ (root_gives text s drawn ts (no_state (first_piece ts) late) rest at count is) (λ rest at count is.
     then_gives text s' s' _ _ _ _ _ _ (transitions_give text s' moved [] (λ e. cc) rest at count (is ∙ sym (append-nil ts))) (λ rest at count is.
-    then_gives text s' s' _ _ _ _ _ _ (finished_gives text s' rest at count is) (λ rest at count is.
+    then_gives text s' s' _ _ _ _ _ _ (text_end_gives text s' rest at count is) (λ rest at count is.
     pure_gave text s' (n.bytes, found) [] rest at count is)))))))
 
 chart_given : {ws : List Lexeme} {chart : Chart} → IsChart ws chart → (text : List ℕ) (tokens : List Token) → map (lexeme_of text) tokens ≡ ws

@@ -14,14 +14,14 @@ use Rattle.wf_cursor.specs.Input as input
 use Rattle.wf_cursor.specs.Input.{Input, Parser, and_then, ◌>>=◌, ◌>>◌, pure, piece, expect, new_name, with_unit, with_event, with_var, with_act}
 use Rattle.wf_phrase.specs.Literals.{sort, sort_by, sort_named, literal, literal_by, number, negated, characters}
 use Rattle.wf_text.specs.Declarations as reader
-use Rattle.wf_text.specs.Declarations.{outputs_from, outputs, given, declaration, declaration_by, declarations_from, declarations}
+use Rattle.wf_text.specs.Declarations.{outputs_from, outputs, outputs_if_any, declaration, declaration_by, declarations_from, declarations}
 use Rattle.wf_grammar.specs.Lexemes.{Lexeme, lexeme_of}
 use Rattle.wf_grammar.specs.Phrases.{Names, Is, IsNameOf}
 use Rattle.wf_grammar.specs.Scopes as scope
 use Rattle.wf_grammar.specs.Scopes.{Scope}
 use Rattle.wf_grammar.specs.Declaring as phrase
 use Rattle.wf_grammar.specs.Declaring.{word_of_sort, Literal, AtUnit, Vars, Gives, Declares, Declarations}
-use Rattle.wf_grammar.specs.ChartLaws.{scope_of, DeclarationsReadAreSpelled}
+use Rattle.wf_grammar.proofs.Rules.{scope_of, DeclarationsReadAreSpelled}
 use Rattle.wf_grammar.proofs.Inputs.{here, piece_here, piece_none, next_here, then_assoc}
 use Rattle.wf_grammar.proofs.ReadSteps.{expect_then, variable_then, int_then, text_then}
 use Rattle.wf_grammar.proofs.Places.{within, Meaning, Read, ReadsOnly, ends_read, read_then, eat_then, unit_then, negated_int_then, new_name_then, both_parts, ended, Changes, ends_changed, BehindChange, change_then}
@@ -90,8 +90,8 @@ literal_reads i (t ∷ rest) at count x j h = by_piece (lexeme_of i.text t).piec
 
 -- ---- units and variables that are named
 
-at_unit_reads : (i : Input) → ReadsOnly i (AtUnit i.names) reader.placed
-unfolding reader.placed
+at_unit_reads : (i : Input) → ReadsOnly i (AtUnit i.names) reader.unit_if_any
+unfolding reader.unit_if_any
 at_unit_reads i left at count x j h =
     elim (eat_then i pieces.At left at count _ x j h) [
       | inl e ↦ (
@@ -142,9 +142,9 @@ outputs_read i left at count xs j h =
       end = r.end;
     })
 
-given_reads : (i : Input) → ReadsOnly i (Gives i.names) given
-unfolding given
-given_reads i left at count xs j h =
+outputs_if_any_reads : (i : Input) → ReadsOnly i (Gives i.names) outputs_if_any
+unfolding outputs_if_any
+outputs_if_any_reads i left at count xs j h =
     elim (eat_then i pieces.Gives left at count _ xs j h) [
       | inl e ↦ (
           let r = outputs_read i e.rest (at + 1) count xs j e.goes_on in
@@ -183,7 +183,7 @@ event_reads text s left at count j h =
     let name = lexeme_of text n.token in
     let between = scope.event_named name s in
     let i' = within text between in
-    let u = read_then i' (AtUnit between.names) reader.placed (at_unit_reads i') n.rest (at + 1 + 1) count _ tt j n.goes_on in
+    let u = read_then i' (AtUnit between.names) reader.unit_if_any (at_unit_reads i') n.rest (at + 1 + 1) count _ tt j n.goes_on in
     let c = expect_then i' pieces.Semicolon u.rest u.at u.count _ tt j u.goes_on in
     rw e.whole (rw n.whole (ends_changed text (Declares s) (scope.with_event (record { name = name.bytes; unit = u.value }) between)
     (lexeme_of text e.token ∷ name ∷ (u.words ++ lexeme_of text c.token ∷ [])) (e.token ∷ n.token ∷ n.rest) c.rest (u.at + 1) u.count j
@@ -222,7 +222,7 @@ activity_reads text s left at count j h =
     let i' = within text between in
     let a = expect_then i' pieces.At n.rest (at + 1 + 1) count _ tt j n.goes_on in
     let u = unit_then i' (Unit {0}) a.rest (at + 1 + 1 + 1) count _ tt j a.goes_on in
-    let g = read_then i' (Gives between.names) given (given_reads i') u.rest (at + 1 + 1 + 1 + 1) count _ tt j u.goes_on in
+    let g = read_then i' (Gives between.names) outputs_if_any (outputs_if_any_reads i') u.rest (at + 1 + 1 + 1 + 1) count _ tt j u.goes_on in
     let c = expect_then i' pieces.Semicolon g.rest g.at g.count _ tt j g.goes_on in
     rw e.whole (rw n.whole (rw a.whole (rw u.whole (ends_changed text (Declares s) (scope.with_act (record { name = name.bytes; unit = u.value; outputs = g.value }) between)
     (lexeme_of text e.token ∷ name ∷ lexeme_of text a.token ∷ lexeme_of text u.token ∷ (g.words ++ lexeme_of text c.token ∷ []))

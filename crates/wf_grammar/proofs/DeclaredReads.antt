@@ -14,7 +14,7 @@ use Rattle.wf_cursor.specs.Input as input
 use Rattle.wf_cursor.specs.Input.{Input, Parser, and_then, ◌>>=◌, ◌>>◌, pure, piece, expect, new_name, with_unit, with_event, with_var, with_act}
 use Rattle.wf_phrase.specs.Literals.{sort, literal, number, negated, characters}
 use Rattle.wf_text.specs.Declarations as reader
-use Rattle.wf_text.specs.Declarations.{outputs_from, outputs, given, declaration, declaration_by, declarations_from, declarations}
+use Rattle.wf_text.specs.Declarations.{outputs_from, outputs, outputs_if_any, declaration, declaration_by, declarations_from, declarations}
 use Rattle.wf_grammar.specs.Lexemes.{Lexeme, lexeme_of}
 use Rattle.wf_grammar.specs.Phrases.{Names, Is, IsNameOf}
 use Rattle.wf_grammar.specs.Laws.{first_piece}
@@ -22,7 +22,7 @@ use Rattle.wf_grammar.specs.Scopes as scope
 use Rattle.wf_grammar.specs.Scopes.{Scope, IsNewName}
 use Rattle.wf_grammar.specs.Declaring as phrase
 use Rattle.wf_grammar.specs.Declaring.{word_of_sort, Literal, AtUnit, Vars, Gives, Declares, Declarations}
-use Rattle.wf_grammar.specs.ChartLaws.{scope_of, BeginsNoDeclaration, DeclarationsSpelledAreRead}
+use Rattle.wf_grammar.proofs.Rules.{scope_of, BeginsNoDeclaration, DeclarationsSpelledAreRead}
 use Rattle.wf_grammar.proofs.Inputs.{here}
 use Rattle.wf_grammar.proofs.Places.{within}
 use Rattle.wf_grammar.proofs.Giving.{Gave, then_gives, pure_gave, next_is, begins, other_piece, expect_gives, take_gives, eat_gives, eat_not, variable_gives, unit_gives, int_gives, negated_int_gives, text_gives, new_name_gives, fits}
@@ -74,8 +74,8 @@ literal_gives text s (phrase.literal_text w t word reads) more may left at count
 
 -- ---- units and variables that are named
 
-at_unit_gives : (text : List ℕ) (s : Scope) {us : List Lexeme} {u : Option UnitId} → AtUnit s.names us u → GivesAs text s (NotNext pieces.At) reader.placed us u
-unfolding reader.placed
+at_unit_gives : (text : List ℕ) (s : Scope) {us : List Lexeme} {u : Option UnitId} → AtUnit s.names us u → GivesAs text s (NotNext pieces.At) reader.unit_if_any us u
+unfolding reader.unit_if_any
 at_unit_gives text s phrase.nowhere more may left at count is =
     then_gives text s s _ _ _ _ _ _ (eat_not text s left at count pieces.At more is may) (λ rest at count is. pure_gave text s None more rest at count is)
 at_unit_gives text s (phrase.at_unit w n u word name) more may left at count is =
@@ -135,12 +135,12 @@ outputs_give text s {xs = xs} vars more may left at count is =
     rw f.same_values (then_gives text s s _ _ _ _ _ _ (variable_gives text s left at count f.name (f.words ++ more) is' f.value f.is) (λ rest at count is.
     outputs_from_gives text s f.go_on (length rest) (f.value ∷ []) (fits text f.words more rest is) more may rest at count is))
 
-given_gives : (text : List ℕ) (s : Scope) {ws : List Lexeme} {xs : List VarId} → Gives s.names ws xs → (more : List Lexeme) → NotNext pieces.Gives more → NotNext pieces.Comma more
-    → (left : List Token) (at count : ℕ) → map (lexeme_of text) left ≡ ws ++ more → Gave text s xs more (given (here (within text s) left at count))
-unfolding given
-given_gives text s phrase.gives_nothing more no_gives no_comma left at count is =
+outputs_if_any_gives : (text : List ℕ) (s : Scope) {ws : List Lexeme} {xs : List VarId} → Gives s.names ws xs → (more : List Lexeme) → NotNext pieces.Gives more → NotNext pieces.Comma more
+    → (left : List Token) (at count : ℕ) → map (lexeme_of text) left ≡ ws ++ more → Gave text s xs more (outputs_if_any (here (within text s) left at count))
+unfolding outputs_if_any
+outputs_if_any_gives text s phrase.gives_nothing more no_gives no_comma left at count is =
     then_gives text s s _ _ _ _ _ _ (eat_not text s left at count pieces.Gives more is no_gives) (λ rest at count is. pure_gave text s [] more rest at count is)
-given_gives text s (phrase.gives_vars {ws} w word vars) more no_gives no_comma left at count is =
+outputs_if_any_gives text s (phrase.gives_vars {ws} w word vars) more no_gives no_comma left at count is =
     then_gives text s s _ _ _ _ _ _ (eat_gives text s left at count w (ws ++ more) is pieces.Gives word) (λ rest at count is. outputs_give text s vars more no_comma rest at count is)
 
 -- ---- declarations
@@ -201,7 +201,7 @@ act_declared text s gs w n at_word place ends u outputs is_act new is_at is_unit
     then_gives text between after _ _ _ _ _ _ (new_name_gives text s rest at count (declared_as_a.Activity (scope.next_act s)) n (at_word ∷ place ∷ (gs ++ ends ∷ more)) is new) (λ rest at count is.
     then_gives text between after _ _ _ _ _ _ (expect_gives text between rest at count at_word (place ∷ (gs ++ ends ∷ more)) is pieces.At is_at) (λ rest at count is.
     then_gives text between after _ _ _ _ _ _ (unit_gives text between rest at count place (gs ++ ends ∷ more) is u is_unit) (λ rest at count is.
-    then_gives text between after _ _ _ _ _ _ (given_gives text between gives (ends ∷ more) (other_piece pieces.Semicolon pieces.Gives ends (λ e. cc) semicolon)
+    then_gives text between after _ _ _ _ _ _ (outputs_if_any_gives text between gives (ends ∷ more) (other_piece pieces.Semicolon pieces.Gives ends (λ e. cc) semicolon)
     (other_piece pieces.Semicolon pieces.Comma ends (λ e. cc) semicolon) rest at count is) (λ rest at count is.
     then_gives text between after _ _ _ _ _ _ (expect_gives text between rest at count ends more is pieces.Semicolon semicolon) (λ rest at count is.
     pure_gave text after tt more rest at count is))))))

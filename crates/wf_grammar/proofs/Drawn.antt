@@ -11,14 +11,14 @@ use Rattle.wf_cursor.specs.declared.piece.Piece.TheVariants as pieces
 use Rattle.wf_cursor.specs.Input as input
 use Rattle.wf_cursor.specs.Input.{Input, Parser, and_then, ◌>>=◌, ◌>>◌, pure, piece, with_state}
 use Rattle.wf_text.specs.States as reader
-use Rattle.wf_text.specs.States.{kind, kind_by, kind_of, children_from, children, body_by, state_with, opened, root, root_by}
+use Rattle.wf_text.specs.States.{kind, kind_by, kind_of, children_from, children, body_by, state_with, block, root, root_by}
 use Rattle.wf_grammar.specs.Lexemes.{Lexeme, lexeme_of}
 use Rattle.wf_grammar.specs.Phrases.{Is}
 use Rattle.wf_grammar.specs.Scopes as scope
 use Rattle.wf_grammar.specs.Scopes.{Scope}
 use Rattle.wf_grammar.specs.Drawing as phrase
 use Rattle.wf_grammar.specs.Drawing.{word_of_kind, Heads, Part, Draws, Root}
-use Rattle.wf_grammar.specs.ChartLaws.{scope_of, RootReadIsSpelled}
+use Rattle.wf_grammar.proofs.Rules.{scope_of, RootReadIsSpelled}
 use Rattle.wf_grammar.proofs.Inputs.{here, piece_here, piece_none, next_here, steps_of, pure_gives}
 use Rattle.wf_grammar.proofs.ReadSteps.{expect_then}
 use Rattle.wf_grammar.proofs.Places.{within, eat_then, unit_then, new_name_then, both_parts, Changed, Changes, ends_changed, change_then}
@@ -60,8 +60,8 @@ head_ends text parent s after words left rest at count id j whole taken h =
     record { head = record { after = after; words = words; rest = rest; at = at; count = count; whole = whole; taken = taken; end = sym g.1 }; number = sym g.0 }
 
 head_reads : (text : List ℕ) (parent : Option StateId) (s : Scope) (left : List Token) (at count : ℕ) (id : StateId) (j : Input)
-    → reader.placed parent (here (within text s) left at count) ≡ Ok (id, j) → Headed text parent s left id j
-unfolding reader.placed input.next_state with_state
+    → reader.head parent (here (within text s) left at count) ≡ Ok (id, j) → Headed text parent s left id j
+unfolding reader.head input.next_state with_state
 head_reads text parent s left at count id j h =
     let i = within text s in
     let k = kind_then i left at count _ id j h in
@@ -121,17 +121,17 @@ module _ (text : List ℕ) (depth : ℕ) (parent : Option StateId) where
 abbrev OpenedReads : List ℕ → ℕ → Type 0
 OpenedReads text depth =
     (id : StateId) (s : Scope) (t : Token) (rest : List Token) (at count : ℕ) (j : Input) → Is pieces.OpenBrace (lexeme_of text t)
-    → opened depth id (here (within text s) (t ∷ rest) at count) ≡ Ok (tt, j) → Changed text (Draws depth Part.body (Some id) s) (t ∷ rest) j
+    → block depth id (here (within text s) (t ∷ rest) at count) ≡ Ok (tt, j) → Changed text (Draws depth Part.body (Some id) s) (t ∷ rest) j
 
 body_reads : (text : List ℕ) (depth : ℕ) → OpenedReads text depth → (id : StateId) (s : Scope) (left : List Token) (at count : ℕ) (j : Input)
-    → body_by (opened depth id) (piece (here (within text s) left at count)) (here (within text s) left at count) ≡ Ok (tt, j)
+    → body_by (block depth id) (piece (here (within text s) left at count)) (here (within text s) left at count) ≡ Ok (tt, j)
     → Changed text (Draws depth Part.body (Some id) s) left j
 body_reads text depth reads id s [] at count j h =
-    let h' : body_by (opened depth id) None (here (within text s) [] at count) ≡ Ok (tt, j) = rw (piece_none (within text s) at count) at h in
+    let h' : body_by (block depth id) None (here (within text s) [] at count) ≡ Ok (tt, j) = rw (piece_none (within text s) at count) at h in
     let no : ⊥ = cc in absurd no
 body_reads text depth reads id s (t ∷ rest) at count j h = by_piece (lexeme_of text t).piece refl (rw (piece_here (within text s) t rest at count) at h)
   where
-    by_piece : (p : Piece) → Is p (lexeme_of text t) → body_by (opened depth id) (Some p) (here (within text s) (t ∷ rest) at count) ≡ Ok (tt, j)
+    by_piece : (p : Piece) → Is p (lexeme_of text t) → body_by (block depth id) (Some p) (here (within text s) (t ∷ rest) at count) ≡ Ok (tt, j)
         → Changed text (Draws depth Part.body (Some id) s) (t ∷ rest) j
     by_piece pieces.Semicolon is h' = ends_changed text (Draws depth Part.body (Some id) s) s (lexeme_of text t ∷ []) (t ∷ rest) rest (at + 1) count j refl
         (phrase.body_ends (lexeme_of text t) is) (rw (next_here (within text s) t rest at count) at h')
@@ -139,13 +139,13 @@ body_reads text depth reads id s (t ∷ rest) at count j h = by_piece (lexeme_of
     by_piece _ is h' = cc
 
 state_reads : (text : List ℕ) (depth : ℕ) → OpenedReads text depth → (parent : Option StateId) (s : Scope)
-    → Changes text s (Draws depth Part.state parent s) (state_with (opened depth) parent)
+    → Changes text s (Draws depth Part.state parent s) (state_with (block depth) parent)
 unfolding state_with
 state_reads text depth reads parent s left at count j h =
-    let q = steps_of (reader.placed parent (here (within text s) left at count)) _ tt j h in
+    let q = steps_of (reader.head parent (here (within text s) left at count)) _ tt j h in
     let r = head_reads text parent s left at count q.value q.between q.first in
     let a = r.head in
-    let went = subst (λ (k : Input). body_by (opened depth q.value) (piece k) k ≡ Ok (tt, j)) a.end q.second in
+    let went = subst (λ (k : Input). body_by (block depth q.value) (piece k) k ≡ Ok (tt, j)) a.end q.second in
     let b = body_reads text depth reads q.value a.after a.rest a.at a.count j went in
     record {
       after = b.after;
@@ -158,13 +158,13 @@ state_reads text depth reads parent s left at count j h =
       end = b.end;
     }
 
-opened_reads : (text : List ℕ) (depth : ℕ) → OpenedReads text depth
-unfolding opened children
-opened_reads text zero id s t rest at count j is h = cc
-opened_reads text (suc depth) id s t rest at count j is h =
-    let child = state_with (opened depth) (Some id) in
+block_reads : (text : List ℕ) (depth : ℕ) → OpenedReads text depth
+unfolding block children
+block_reads text zero id s t rest at count j is h = cc
+block_reads text (suc depth) id s t rest at count j is h =
+    let child = state_with (block depth) (Some id) in
     let h' : children child (here (within text s) rest (at + 1) count) ≡ Ok (tt, j) = rw (next_here (within text s) t rest at count) at h in
-    let r = children_from_read text depth (Some id) child (state_reads text depth (opened_reads text depth) (Some id)) (length rest) s rest (at + 1) count j h' in
+    let r = children_from_read text depth (Some id) child (state_reads text depth (block_reads text depth) (Some id)) (length rest) s rest (at + 1) count j h' in
     let c = r.taken in
     record {
       after = r.after;
@@ -184,7 +184,7 @@ root_reads text s left at count j h = by_kind (kind_of (piece (here (within text
     by_kind : (k : Option Kind) → root_by k (here (within text s) left at count) ≡ Ok (tt, j) → Changed text (Root s) left j
     by_kind None h' = ends_changed text (Root s) s [] left left at count j refl phrase.no_root h'
     by_kind (Some k) h' =
-        let r = state_reads text max_open (opened_reads text max_open) None s left at count j h' in
+        let r = state_reads text max_open (block_reads text max_open) None s left at count j h' in
         record { after = r.after; words = r.words; rest = r.rest; at = r.at; count = r.count; whole = r.whole; taken = phrase.root r.taken; end = r.end }
 
 pub root_read : RootReadIsSpelled

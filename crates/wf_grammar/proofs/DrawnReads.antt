@@ -11,7 +11,7 @@ use Rattle.wf_cursor.specs.declared.piece.Piece.TheVariants as pieces
 use Rattle.wf_cursor.specs.Input as input
 use Rattle.wf_cursor.specs.Input.{Input, Parser, and_then, ◌>>=◌, ◌>>◌, pure, piece, with_state}
 use Rattle.wf_text.specs.States as reader
-use Rattle.wf_text.specs.States.{kind, kind_of, children_from, children, body_by, state_with, opened, root, root_by}
+use Rattle.wf_text.specs.States.{kind, kind_of, children_from, children, body_by, state_with, block, root, root_by}
 use Rattle.wf_grammar.specs.Lexemes.{Lexeme, lexeme_of}
 use Rattle.wf_grammar.specs.Phrases.{Is}
 use Rattle.wf_grammar.specs.Laws.{first_piece}
@@ -19,7 +19,7 @@ use Rattle.wf_grammar.specs.Scopes as scope
 use Rattle.wf_grammar.specs.Scopes.{Scope}
 use Rattle.wf_grammar.specs.Drawing as phrase
 use Rattle.wf_grammar.specs.Drawing.{word_of_kind, Heads, Part, Draws, Root}
-use Rattle.wf_grammar.specs.ChartLaws.{scope_of, BeginsNoState, RootSpelledIsRead}
+use Rattle.wf_grammar.proofs.Rules.{scope_of, BeginsNoState, RootSpelledIsRead}
 use Rattle.wf_grammar.proofs.Inputs.{here}
 use Rattle.wf_grammar.proofs.Places.{within}
 use Rattle.wf_grammar.proofs.Giving.{Gave, then_gives, pure_gave, next_is, begins, other_piece, expect_gives, take_gives, eat_gives, eat_not, unit_gives, new_name_gives}
@@ -41,8 +41,8 @@ kind_gives text s kinds.And w ws left at count is word =
 
 head_gives : (text : List ℕ) (s : Scope) (parent : Option StateId) {hs : List Lexeme} {s' : Scope} → Heads parent s hs s'
     → (more : List Lexeme) (left : List Token) (at count : ℕ) → map (lexeme_of text) left ≡ hs ++ more
-    → Gave text s' (scope.next_state s) more (reader.placed parent (here (within text s) left at count))
-unfolding reader.placed input.next_state with_state
+    → Gave text s' (scope.next_state s) more (reader.head parent (here (within text s) left at count))
+unfolding reader.head input.next_state with_state
 head_gives text s parent (phrase.heads word n at_word place k u is_kind new is_at is_unit) more left at count is =
     let between = scope.state_named n s in
     let after = scope.with_state (record { name = n.bytes; kind = k; parent = parent; unit = u }) between in
@@ -85,26 +85,26 @@ has_some b = rw b.whole (omega arith)
 abbrev GivesPart : List ℕ → ℕ → Part → Option StateId → Scope → List Lexeme → Scope → Type 0
 GivesPart text depth Part.state parent s ws s' =
     (more : List Lexeme) (left : List Token) (at count : ℕ) → map (lexeme_of text) left ≡ ws ++ more
-    → Gave text s' tt more (state_with (opened depth) parent (here (within text s) left at count))
+    → Gave text s' tt more (state_with (block depth) parent (here (within text s) left at count))
 GivesPart text depth Part.body parent s ws s' =
     (id : StateId) → parent ≡ Some id → (more : List Lexeme) (left : List Token) (at count : ℕ) → map (lexeme_of text) left ≡ ws ++ more
-    → Gave text s' tt more (body_by (opened depth id) (piece (here (within text s) left at count)) (here (within text s) left at count))
+    → Gave text s' tt more (body_by (block depth id) (piece (here (within text s) left at count)) (here (within text s) left at count))
 GivesPart text depth Part.states parent s ws s' =
     (turns : ℕ) → length ws < turns → (closes : Lexeme) → Is pieces.CloseBrace closes
     → (more : List Lexeme) (left : List Token) (at count : ℕ) → map (lexeme_of text) left ≡ ws ++ closes ∷ more
-    → Gave text s' tt more (children_from (state_with (opened depth) parent) turns (here (within text s) left at count))
+    → Gave text s' tt more (children_from (state_with (block depth) parent) turns (here (within text s) left at count))
 
 -- a brace, states and a brace
 braces_give : (text : List ℕ) (depth : ℕ) (parent : Option StateId) (s s' : Scope) (ws : List Lexeme) (opens closes : Lexeme)
     → Is pieces.OpenBrace opens → GivesPart text depth Part.states parent s ws s' → Is pieces.CloseBrace closes
     → GivesPart text (suc depth) Part.body parent s (opens ∷ (ws ++ closes ∷ [])) s'
-unfolding opened children
+unfolding block children
 braces_give text depth parent s s' ws opens closes is_open reads is_close id is_parent more left at count is =
     let behind = ws ++ closes ∷ more in
     let is' : map (lexeme_of text) left ≡ opens ∷ behind = is ∙ ap (λ ls. opens ∷ ls) (append_assoc ws (closes ∷ []) more) in
     let inner = subst (λ (p : Option StateId). GivesPart text depth Part.states p s ws s') is_parent reads in
     rw (next_is (within text s) pieces.OpenBrace opens behind left at count is' is_open)
-    (take_gives text s left at count opens behind is' s' (children (state_with (opened depth) (Some id))) tt more (λ rest at count is.
+    (take_gives text s left at count opens behind is' s' (children (state_with (block depth) (Some id))) tt more (λ rest at count is.
     let long : length rest ≡ length (ws ++ closes ∷ more) = sym (length-map rest (lexeme_of text)) ∙ ap length is in
     inner (length rest) (omega (arith, length-append ws (closes ∷ more))) closes is_close more rest at count is))
 

@@ -11,6 +11,7 @@ pub mod SpelledAtoms
 pub mod SpelledRead
 pub mod OneReading
 pub mod Places
+pub mod Rules
 pub mod Declared
 pub mod Moved
 pub mod Drawn

@@ -11,12 +11,12 @@ use Rattle.wf_cursor.specs.declared.piece.Piece.TheVariants as pieces
 use Rattle.wf_cursor.specs.Input as input
 use Rattle.wf_cursor.specs.Input.{Input, Parser, and_then, ◌>>=◌, ◌>>◌, pure, piece, sees, expect}
 use Rattle.wf_phrase.specs.Expressions.{expr}
-use Rattle.wf_text.specs.Transitions.{caused, guarded, assigned, raised, started, action, action_by, actions_from, actions, effects, transition, transitions_from, transitions}
+use Rattle.wf_text.specs.Transitions.{event_if_any, guard_if_any, assignment, raise_action, start_action, action, action_by, actions_from, actions, effects, transition, transitions_from, transitions}
 use Rattle.wf_grammar.specs.Lexemes.{Lexeme, lexeme_of}
 use Rattle.wf_grammar.specs.Phrases.{Names, Is}
 use Rattle.wf_grammar.specs.Moving as phrase
 use Rattle.wf_grammar.specs.Moving.{SpellsWhole, OnEvent, IfGuard, Acts, Actions, DoActions, Moves, Transitions}
-use Rattle.wf_grammar.specs.ChartLaws.{TransitionsReadAreSpelled}
+use Rattle.wf_grammar.proofs.Rules.{TransitionsReadAreSpelled}
 use Rattle.wf_grammar.proofs.Inputs.{here, piece_here, piece_none, next_here}
 use Rattle.wf_grammar.proofs.ReadSteps.{expect_then, variable_then, state_then, activity_then}
 use Rattle.wf_grammar.proofs.ReadSpelled.{read_is_spelled}
@@ -36,9 +36,9 @@ expr_reads i left at count x j h =
       end = r.4;
     }
 
-caused_reads : (i : Input) → ReadsOnly i (OnEvent i.names) caused
-unfolding caused
-caused_reads i left at count x j h =
+event_if_any_reads : (i : Input) → ReadsOnly i (OnEvent i.names) event_if_any
+unfolding event_if_any
+event_if_any_reads i left at count x j h =
     elim (eat_then i pieces.On left at count _ x j h) [
       | inl e ↦ (
           let n = event_then i (Option EventId) e.rest (at + 1) count _ x j e.goes_on in
@@ -47,9 +47,9 @@ caused_reads i left at count x j h =
       | inr h' ↦ ends_read i (OnEvent i.names) [] left left at count None x j refl phrase.no_event h'
     ]
 
-guarded_reads : (i : Input) → ReadsOnly i (IfGuard i.names) guarded
-unfolding guarded
-guarded_reads i left at count x j h =
+guard_if_any_reads : (i : Input) → ReadsOnly i (IfGuard i.names) guard_if_any
+unfolding guard_if_any
+guard_if_any_reads i left at count x j h =
     elim (eat_then i pieces.If left at count _ x j h) [
       | inl e ↦ (
           let r = read_then i (SpellsWhole i.names) expr (expr_reads i) e.rest (at + 1) count _ x j e.goes_on in
@@ -60,9 +60,9 @@ guarded_reads i left at count x j h =
 
 -- ---- actions
 
-assigned_reads : (i : Input) → ReadsOnly i (Acts i.names) assigned
-unfolding assigned
-assigned_reads i left at count x j h =
+assignment_reads : (i : Input) → ReadsOnly i (Acts i.names) assignment
+unfolding assignment
+assignment_reads i left at count x j h =
     let n = variable_then i Action left at count _ x j h in
     let b = expect_then i pieces.Assign n.rest (at + 1) count _ x j n.goes_on in
     let r = read_then i (SpellsWhole i.names) expr (expr_reads i) b.rest (at + 1 + 1) count _ x j b.goes_on in
@@ -71,17 +71,17 @@ assigned_reads i left at count x j h =
     (phrase.assigns (lexeme_of i.text n.token) (lexeme_of i.text b.token) n.value n.is b.is r.taken) r.goes_on))
 
 module _ (i : Input) (t : Token) (rest : List Token) (at count : ℕ) (x : Action) (j : Input) where
-  raised_reads : Is pieces.Raise (lexeme_of i.text t) → raised (here i (t ∷ rest) at count) ≡ Ok (x, j) → Read i (Acts i.names) (t ∷ rest) x j
-  unfolding raised
-  raised_reads is h =
+  raise_action_reads : Is pieces.Raise (lexeme_of i.text t) → raise_action (here i (t ∷ rest) at count) ≡ Ok (x, j) → Read i (Acts i.names) (t ∷ rest) x j
+  unfolding raise_action
+  raise_action_reads is h =
       let h' : and_then (input.event (here i rest (at + 1) count)) (λ e. pure (act.Raise e)) ≡ Ok (x, j) = rw (next_here i t rest at count) at h in
       let n = event_then i Action rest (at + 1) count _ x j h' in
       rw n.whole (ends_read i (Acts i.names) (lexeme_of i.text t ∷ lexeme_of i.text n.token ∷ []) (t ∷ n.token ∷ n.rest) n.rest (at + 1 + 1) count (act.Raise n.value) x j refl
       (phrase.raises (lexeme_of i.text t) (lexeme_of i.text n.token) n.value is n.is) n.goes_on)
 
-  started_reads : Is pieces.Start (lexeme_of i.text t) → started (here i (t ∷ rest) at count) ≡ Ok (x, j) → Read i (Acts i.names) (t ∷ rest) x j
-  unfolding started
-  started_reads is h =
+  start_action_reads : Is pieces.Start (lexeme_of i.text t) → start_action (here i (t ∷ rest) at count) ≡ Ok (x, j) → Read i (Acts i.names) (t ∷ rest) x j
+  unfolding start_action
+  start_action_reads is h =
       let h' : and_then (input.activity (here i rest (at + 1) count)) (λ e. pure (act.Start e)) ≡ Ok (x, j) = rw (next_here i t rest at count) at h in
       let n = activity_then i Action rest (at + 1) count _ x j h' in
       rw n.whole (ends_read i (Acts i.names) (lexeme_of i.text t ∷ lexeme_of i.text n.token ∷ []) (t ∷ n.token ∷ n.rest) n.rest (at + 1 + 1) count (act.Start n.value) x j refl
@@ -95,9 +95,9 @@ action_reads i [] at count x j h =
 action_reads i (t ∷ rest) at count x j h = by_piece (lexeme_of i.text t).piece refl (rw (piece_here i t rest at count) at h)
   where
     by_piece : (p : Piece) → Is p (lexeme_of i.text t) → action_by (Some p) (here i (t ∷ rest) at count) ≡ Ok (x, j) → Read i (Acts i.names) (t ∷ rest) x j
-    by_piece pieces.Name is h' = assigned_reads i (t ∷ rest) at count x j h'
-    by_piece pieces.Raise is h' = raised_reads i t rest at count x j is h'
-    by_piece pieces.Start is h' = started_reads i t rest at count x j is h'
+    by_piece pieces.Name is h' = assignment_reads i (t ∷ rest) at count x j h'
+    by_piece pieces.Raise is h' = raise_action_reads i t rest at count x j is h'
+    by_piece pieces.Start is h' = start_action_reads i t rest at count x j is h'
     by_piece _ is h' = cc
 
 -- behind an action, and with those that were found before it
@@ -168,8 +168,8 @@ transition_reads i left at count x j h =
     let s = state_then i Transition f.rest (at + 1) count _ x j f.goes_on in
     let o = expect_then i pieces.To s.rest (at + 1 + 1) count _ x j s.goes_on in
     let t = state_then i Transition o.rest (at + 1 + 1 + 1) count _ x j o.goes_on in
-    let e = read_then i (OnEvent i.names) caused (caused_reads i) t.rest (at + 1 + 1 + 1 + 1) count _ x j t.goes_on in
-    let g = read_then i (IfGuard i.names) guarded (guarded_reads i) e.rest e.at e.count _ x j e.goes_on in
+    let e = read_then i (OnEvent i.names) event_if_any (event_if_any_reads i) t.rest (at + 1 + 1 + 1 + 1) count _ x j t.goes_on in
+    let g = read_then i (IfGuard i.names) guard_if_any (guard_if_any_reads i) e.rest e.at e.count _ x j e.goes_on in
     let d = read_then i (DoActions i.names) effects (effects_read i) g.rest g.at g.count _ x j g.goes_on in
     let c = expect_then i pieces.Semicolon d.rest d.at d.count _ x j d.goes_on in
     let name = lexeme_of i.text in

@@ -12,14 +12,14 @@ use Rattle.wf_cursor.specs.declared.piece.Piece.{Piece}
 use Rattle.wf_cursor.specs.declared.piece.Piece.TheVariants as pieces
 use Rattle.wf_cursor.specs.Input as input
 use Rattle.wf_cursor.specs.Input.{Input, Parser, and_then, ◌>>=◌, ◌>>◌, pure, piece, sees, expect}
-use Rattle.wf_text.specs.Transitions.{caused, guarded, assigned, raised, started, action, actions_from, actions, effects, transition, transitions_from, transitions}
+use Rattle.wf_text.specs.Transitions.{event_if_any, guard_if_any, assignment, raise_action, start_action, action, actions_from, actions, effects, transition, transitions_from, transitions}
 use Rattle.wf_grammar.specs.Lexemes.{Lexeme, lexeme_of}
 use Rattle.wf_grammar.specs.Phrases.{Names, Is, sign_of}
 use Rattle.wf_grammar.specs.Laws.{first_piece, IsNoOperator}
 use Rattle.wf_grammar.specs.Scopes.{Scope}
 use Rattle.wf_grammar.specs.Moving as phrase
 use Rattle.wf_grammar.specs.Moving.{SpellsWhole, OnEvent, IfGuard, Acts, Actions, DoActions, Moves, Transitions}
-use Rattle.wf_grammar.specs.ChartLaws.{scope_of, TransitionsSpelledAreRead}
+use Rattle.wf_grammar.proofs.Rules.{scope_of, TransitionsSpelledAreRead}
 use Rattle.wf_grammar.proofs.Inputs.{here, piece_sees}
 use Rattle.wf_grammar.proofs.Places.{within}
 use Rattle.wf_grammar.proofs.Giving.{Gave, then_gives, pure_gave, next_is, begins, not_seen, other_piece, expect_gives, take_gives, eat_gives, eat_not, variable_gives, state_gives, activity_gives, event_gives, expr_gives, fits}
@@ -75,26 +75,26 @@ guard_not_on names (phrase.if_guard w word x) more late = other_piece pieces.If 
 
 -- ---- events and guards
 
-caused_gives : (text : List ℕ) (s : Scope) {es : List Lexeme} {e : Option EventId} → OnEvent s.names es e → GivesAs text s (NotNext pieces.On) caused es e
-unfolding caused
-caused_gives text s phrase.no_event more may left at count is =
+event_if_any_gives : (text : List ℕ) (s : Scope) {es : List Lexeme} {e : Option EventId} → OnEvent s.names es e → GivesAs text s (NotNext pieces.On) event_if_any es e
+unfolding event_if_any
+event_if_any_gives text s phrase.no_event more may left at count is =
     then_gives text s s _ _ _ _ _ _ (eat_not text s left at count pieces.On more is may) (λ rest at count is. pure_gave text s None more rest at count is)
-caused_gives text s (phrase.on_event w n e word name) more may left at count is =
+event_if_any_gives text s (phrase.on_event w n e word name) more may left at count is =
     then_gives text s s _ _ _ _ _ _ (eat_gives text s left at count w (n ∷ more) is pieces.On word) (λ rest at count is.
     then_gives text s s _ _ _ _ _ _ (event_gives text s rest at count n more is e name) (λ rest at count is. pure_gave text s (Some e) more rest at count is))
 
-guarded_gives : (text : List ℕ) (s : Scope) {gs : List Lexeme} {g : Option Expr} → IfGuard s.names gs g → GivesAs text s Late guarded gs g
-unfolding guarded
-guarded_gives text s phrase.no_guard more late left at count is =
+guard_if_any_gives : (text : List ℕ) (s : Scope) {gs : List Lexeme} {g : Option Expr} → IfGuard s.names gs g → GivesAs text s Late guard_if_any gs g
+unfolding guard_if_any
+guard_if_any_gives text s phrase.no_guard more late left at count is =
     then_gives text s s _ _ _ _ _ _ (eat_not text s left at count pieces.If more is (late_not_if more late)) (λ rest at count is. pure_gave text s None more rest at count is)
-guarded_gives text s (phrase.if_guard {xs} {x} w word guard) more late left at count is =
+guard_if_any_gives text s (phrase.if_guard {xs} {x} w word guard) more late left at count is =
     then_gives text s s _ _ _ _ _ _ (eat_gives text s left at count w (xs ++ more) is pieces.If word) (λ rest at count is.
     then_gives text s s _ _ _ _ _ _ (expr_gives text s rest at count xs more x guard (late_no_operator more late) is) (λ rest at count is. pure_gave text s (Some x) more rest at count is))
 
 -- ---- actions
 
 acts_give : (text : List ℕ) (s : Scope) {us : List Lexeme} {a : Action} → Acts s.names us a → GivesAs text s (λ more. IsNoOperator (first_piece more)) action us a
-unfolding action assigned raised started
+unfolding action assignment raise_action start_action
 acts_give text s (phrase.assigns {xs} {value} n becomes x name is_becomes spells) more ends left at count is =
     rw (next_is (within text s) pieces.Name n (becomes ∷ (xs ++ more)) left at count is name.is_name)
     (then_gives text s s _ _ _ _ _ _ (variable_gives text s left at count n (becomes ∷ (xs ++ more)) is x name) (λ rest at count is.
@@ -194,8 +194,8 @@ moves_give text s (phrase.moves {es} {gs} {ds} from_word from_name to_word to_na
     then_gives text s s _ _ _ _ _ _ (state_gives text s rest at count from_name (to_word ∷ to_name ∷ behind) is source is_source) (λ rest at count is.
     then_gives text s s _ _ _ _ _ _ (expect_gives text s rest at count to_word (to_name ∷ behind) is pieces.To is_to) (λ rest at count is.
     then_gives text s s _ _ _ _ _ _ (state_gives text s rest at count to_name behind is target is_target) (λ rest at count is.
-    then_gives text s s _ _ _ _ _ _ (caused_gives text s on (gs ++ (ds ++ last)) (guard_not_on s.names if_ (ds ++ last) late) rest at count is) (λ rest at count is.
-    then_gives text s s _ _ _ _ _ _ (guarded_gives text s if_ (ds ++ last) late rest at count is) (λ rest at count is.
+    then_gives text s s _ _ _ _ _ _ (event_if_any_gives text s on (gs ++ (ds ++ last)) (guard_not_on s.names if_ (ds ++ last) late) rest at count is) (λ rest at count is.
+    then_gives text s s _ _ _ _ _ _ (guard_if_any_gives text s if_ (ds ++ last) late rest at count is) (λ rest at count is.
     then_gives text s s _ _ _ _ _ _ (effects_give text s do_ last (ap Some semicolon) rest at count is) (λ rest at count is.
     then_gives text s s _ _ _ _ _ _ (expect_gives text s rest at count ends more is pieces.Semicolon semicolon) (λ rest at count is.
     pure_gave text s (record { source = source; target = target; event = event; guard = guard; actions = found }) more rest at count is))))))))

@@ -1,3 +1,2 @@
 pub mod Lex
-pub mod Gives
 pub mod Slices

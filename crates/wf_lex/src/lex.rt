@@ -3,8 +3,8 @@ ghost use Rattle.std.specs.Prelude.{◌≡◌, ◌≤◌, length, take_while, If
 ghost use Rattle.wf_model.specs.Names as names;
 ghost use Rattle.wf_model.specs.Txt as txt;
 ghost use Rattle.wf_lex.specs.Lex as spec;
-ghost use Rattle.wf_lex.specs.Gives.{Gives};
 ghost use Rattle.wf_model.specs.Limits.{max_input, max_tokens};
+ghost use Rattle.wf_model.specs.Steps.{Gives};
 
 use crate::{LexFault, Token, TokenKind};
 use std::alloc::Global;
@@ -87,7 +87,7 @@ fn token_at(first: u8, bytes: &[u8]) -> Option<(TokenKind, usize)>
 #[tactic(auto, unfolding(crate::specs::Lex::tokens_up_to))]
 fn tokens_up_to(alloc: Global, text: &[u8], most: usize) -> Result<List<Token>, LexFault>
     requires { length text.now ≤ max_input }
-    ensures exact { Gives result (spec.tokens_up_to most text.now) }
+    ensures exact { Gives LexFault.NoMemory result (spec.tokens_up_to most text.now) }
     ensures few { IfOk result (λ found. length found ≤ most) }
 {
     let mut found = Vec::new(alloc);
@@ -127,7 +127,7 @@ fn tokens_up_to(alloc: Global, text: &[u8], most: usize) -> Result<List<Token>, 
 #[tactic(auto, unfolding(crate::specs::Lex::tokens_of, crate::specs::Lex::tokens_up_to))]
 pub fn tokens(alloc: Global, text: &[u8]) -> Result<List<Token>, LexFault>
     requires { length text.now ≤ max_input }
-    ensures exact { Gives result (spec.tokens_of text.now) }
+    ensures exact { Gives LexFault.NoMemory result (spec.tokens_of text.now) }
     ensures few { IfOk result (λ found. length found ≤ max_tokens) }
 {
     tokens_up_to(alloc, text, MAX_TOKENS)
@@ -138,28 +138,7 @@ pub fn tokens(alloc: Global, text: &[u8]) -> Result<List<Token>, LexFault>
 #[tactic(auto, unfolding(crate::specs::Lex::line_tokens_of, crate::specs::Lex::tokens_up_to))]
 pub fn line_tokens(alloc: Global, line: &[u8]) -> Result<List<Token>, LexFault>
     requires { length line.now ≤ max_input }
-    ensures { Gives result (spec.line_tokens_of line.now) }
+    ensures { Gives LexFault.NoMemory result (spec.line_tokens_of line.now) }
 {
     tokens_up_to(alloc, line, line.len())
-}
-
-#[cfg(test)]
-mod tests {
-    use crate::{LexFault, Token, TokenKind, tokens};
-    use std::test::Fail;
-
-    #[test]
-    fn cuts_a_text(rt: HostRuntime) -> Result<(), Fail> {
-        let found = tokens(rt.alloc(), b"or R1 := 7# x\n\"t\"")?;
-        assert_eq!(rt; found.len(), 5);
-        let last = Token {
-            kind: TokenKind::Text,
-            start: 14,
-            end: 17,
-        };
-        assert_eq!(rt; found.as_slice()[4], last);
-        let refused = tokens(rt.alloc(), b"a \"b\n\"").err();
-        assert_eq!(rt; refused, Some(LexFault::BadByte { at: 2 }));
-        Ok(())
-    }
 }

@@ -2,11 +2,10 @@
 ghost use Rattle.std.specs.Prelude.{◌≡◌};
 ghost use Rattle.wf_lex.specs.declared.token.LexFault.TheVariants.{NoMemory};
 
-use std::alloc::{AllocError, AllocFailed};
-use thiserror::Error;
+use std::alloc::AllocFailed;
 
 /// A kind of token.
-#[derive(Clone, Copy, Debug, PartialEq, Eq)]
+#[derive(Clone, Copy)]
 pub enum TokenKind {
     /// A letter, and letters, digits and `_`.
     Word,
@@ -19,7 +18,7 @@ pub enum TokenKind {
 }
 
 /// A token: its kind, the place of its first byte and the place behind its last one. Places count from 0.
-#[derive(Clone, Copy, Debug, PartialEq, Eq)]
+#[derive(Clone, Copy)]
 pub struct Token {
     pub kind: TokenKind,
     pub start: u32,
@@ -27,24 +26,14 @@ pub struct Token {
 }
 
 /// Why a text has no tokens.
-#[derive(Clone, Copy, Debug, PartialEq, Eq, Error)]
+#[derive(Clone, Copy)]
 pub enum LexFault {
     /// No token starts with the byte at this place.
-    #[error("bad byte at {at}")]
     BadByte { at: u32 },
     /// The first token above the limit starts at this place.
-    #[error("too many tokens at {at}")]
     TooManyTokens { at: u32 },
-    #[error("out of memory")]
+    /// Memory ran out.
     NoMemory,
-}
-
-impl From<AllocError> for LexFault {
-    ghost from_gives = { λ _ e. e ≡ NoMemory };
-
-    fn from(_e: AllocError) -> LexFault {
-        LexFault::NoMemory
-    }
 }
 
 impl<T: Drop> From<AllocFailed<T>> for LexFault {

@@ -5,8 +5,6 @@ mod expression;
 mod literals;
 mod operators;
 mod rules;
-#[cfg(test)]
-mod tests;
 
 pub use expression::expr;
 pub use literals::{literal, sort};

@@ -1,6 +1,6 @@
 //! Literals, and the words of sorts.
 ghost use Rattle.std.specs.Prelude.{◌≡◌, ◌≤◌, ◌^◌, pos, neg_ℤ};
-ghost use Rattle.wf_cursor.specs.Input.{Reads};
+ghost use Rattle.wf_cursor.specs.Input.{ReadsExactly};
 ghost use Rattle.wf_phrase.specs.Literals as spec;
 
 use wf_cursor::{Cursor, Piece, TextFault};
@@ -16,7 +16,7 @@ fn below_zero(number: u64) -> i64
 
 #[tactic(auto, unfolding(crate::specs::Literals::number))]
 fn number(cursor: &mut Cursor<'_>) -> Result<Val, TextFault>
-    ensures { Reads (spec.number cursor.old) result cursor.new }
+    ensures { ReadsExactly (spec.number cursor.old) result cursor.new }
 {
     let number = cursor.int()?;
     Ok(Val::Int(number as i64))
@@ -24,7 +24,7 @@ fn number(cursor: &mut Cursor<'_>) -> Result<Val, TextFault>
 
 #[tactic(auto, unfolding(crate::specs::Literals::negated))]
 fn negated(cursor: &mut Cursor<'_>) -> Result<Val, TextFault>
-    ensures { Reads (spec.negated cursor.old) result cursor.new }
+    ensures { ReadsExactly (spec.negated cursor.old) result cursor.new }
 {
     cursor.take();
     let number = cursor.negated_int()?;
@@ -33,7 +33,7 @@ fn negated(cursor: &mut Cursor<'_>) -> Result<Val, TextFault>
 
 #[tactic(auto, unfolding(crate::specs::Literals::characters))]
 fn characters(cursor: &mut Cursor<'_>) -> Result<Val, TextFault>
-    ensures { Reads (spec.characters cursor.old) result cursor.new }
+    ensures { ReadsExactly (spec.characters cursor.old) result cursor.new }
 {
     Ok(Val::Text(cursor.text()?))
 }
@@ -42,7 +42,7 @@ fn characters(cursor: &mut Cursor<'_>) -> Result<Val, TextFault>
 /// behind `-` at most 9223372036854775808; a greater one is `Oversize`, and so is a Text of over 64 characters.
 #[tactic(auto, unfolding(crate::specs::Literals::literal))]
 pub fn literal(cursor: &mut Cursor<'_>) -> Result<Val, TextFault>
-    ensures { Reads (spec.literal cursor.old) result cursor.new }
+    ensures { ReadsExactly (spec.literal cursor.old) result cursor.new }
 {
     match cursor.peek() {
         Some(Piece::True) => {
@@ -74,7 +74,7 @@ fn sort_named(piece: Option<Piece>) -> Option<Sort>
 /// Reads the word of a sort: `bool`, `int` or `text`. Any other token is `Syntax`.
 #[tactic(auto, unfolding(crate::specs::Literals::sort))]
 pub fn sort(cursor: &mut Cursor<'_>) -> Result<Sort, TextFault>
-    ensures { Reads (spec.sort cursor.old) result cursor.new }
+    ensures { ReadsExactly (spec.sort cursor.old) result cursor.new }
 {
     match sort_named(cursor.peek()) {
         Some(sort) => {

@@ -3,9 +3,9 @@ ghost use Rattle.std.specs.Prelude.{◌≡◌, IfOk};
 ghost use Rattle.wf_phrase.specs.Operators as spec;
 
 use sqlite_items::Boxed;
-use std::alloc::{AllocError, Global};
+use std::alloc::Global;
 use wf_cursor::Piece;
-use wf_model::{Expr, Op};
+use wf_model::{Expr, NoMemory, Op};
 
 #[tactic(auto, unfolding(crate::specs::Operators::or_operator))]
 pub fn or_operator(piece: Option<Piece>) -> Option<Op>
@@ -66,21 +66,21 @@ pub fn product_operator(piece: Option<Piece>) -> Option<Op>
 }
 
 /// Both sides under an operator.
-pub fn binary(alloc: Global, op: Op, left: Expr, right: Expr) -> Result<Expr, AllocError>
+pub fn binary(alloc: Global, op: Op, left: Expr, right: Expr) -> Result<Expr, NoMemory>
     ensures { IfOk result (λ e. e ≡ Expr.Bin op left right) }
 {
     Ok(Expr::Bin(op, Boxed::new(alloc, left)?, Boxed::new(alloc, right)?))
 }
 
 /// The operand under `not`.
-pub fn negation(alloc: Global, operand: Expr) -> Result<Expr, AllocError>
+pub fn negation(alloc: Global, operand: Expr) -> Result<Expr, NoMemory>
     ensures { IfOk result (λ e. e ≡ Expr.Not operand) }
 {
     Ok(Expr::Not(Boxed::new(alloc, operand)?))
 }
 
 /// The operand under `-`.
-pub fn negative(alloc: Global, operand: Expr) -> Result<Expr, AllocError>
+pub fn negative(alloc: Global, operand: Expr) -> Result<Expr, NoMemory>
     ensures { IfOk result (λ e. e ≡ Expr.Neg operand) }
 {
     Ok(Expr::Neg(Boxed::new(alloc, operand)?))

@@ -1,6 +1,6 @@
 //! The rules of expressions. They take the reader of parentheses as a parameter, so that each is proved by itself.
 ghost use Rattle.std.specs.Prelude.{◌≡◌, length};
-ghost use Rattle.wf_cursor.specs.Input.{Reads};
+ghost use Rattle.wf_cursor.specs.Input.{Reads, ReadsExactly};
 ghost use Rattle.wf_phrase.specs.Expressions as spec;
 ghost use Rattle.wf_phrase.specs.Operators as spec_of;
 ghost use Rattle.wf_phrase.specs.Nests.{Nests};
@@ -16,7 +16,7 @@ use wf_model::{ActId, Expr};
 // Takes `(`, where so many may still open.
 #[tactic(auto, unfolding(crate::specs::Expressions::open_paren))]
 fn open_paren(cursor: &mut Cursor<'_>, depth: usize) -> Result<(), TextFault>
-    ensures { Reads (spec.open_paren depth cursor.old) result cursor.new }
+    ensures { ReadsExactly (spec.open_paren depth cursor.old) result cursor.new }
 {
     if !cursor.sees(Piece::OpenParen) {
         Err(cursor.syntax())
@@ -30,7 +30,7 @@ fn open_paren(cursor: &mut Cursor<'_>, depth: usize) -> Result<(), TextFault>
 
 #[tactic(auto, unfolding(crate::specs::Expressions::activity_inside))]
 fn activity_inside(cursor: &mut Cursor<'_>, depth: usize) -> Result<ActId, TextFault>
-    ensures { Reads (spec.activity_inside depth cursor.old) result cursor.new }
+    ensures { ReadsExactly (spec.activity_inside depth cursor.old) result cursor.new }
 {
     open_paren(cursor, depth)?;
     let activity = cursor.activity()?;
@@ -40,7 +40,7 @@ fn activity_inside(cursor: &mut Cursor<'_>, depth: usize) -> Result<ActId, TextF
 
 #[tactic(auto, unfolding(crate::specs::Expressions::truth))]
 fn truth(cursor: &mut Cursor<'_>, value: bool) -> Result<Expr, TextFault>
-    ensures { Reads (spec.truth value cursor.old) result cursor.new }
+    ensures { ReadsExactly (spec.truth value cursor.old) result cursor.new }
 {
     cursor.node()?;
     cursor.take();
@@ -49,7 +49,7 @@ fn truth(cursor: &mut Cursor<'_>, value: bool) -> Result<Expr, TextFault>
 
 #[tactic(auto, unfolding(crate::specs::Expressions::number))]
 fn number(cursor: &mut Cursor<'_>) -> Result<Expr, TextFault>
-    ensures { Reads (spec.number cursor.old) result cursor.new }
+    ensures { ReadsExactly (spec.number cursor.old) result cursor.new }
 {
     cursor.node()?;
     Ok(Expr::Int(cursor.int()?))
@@ -57,7 +57,7 @@ fn number(cursor: &mut Cursor<'_>) -> Result<Expr, TextFault>
 
 #[tactic(auto, unfolding(crate::specs::Expressions::characters))]
 fn characters(cursor: &mut Cursor<'_>) -> Result<Expr, TextFault>
-    ensures { Reads (spec.characters cursor.old) result cursor.new }
+    ensures { ReadsExactly (spec.characters cursor.old) result cursor.new }
 {
     cursor.node()?;
     Ok(Expr::Text(cursor.text()?))
@@ -65,7 +65,7 @@ fn characters(cursor: &mut Cursor<'_>) -> Result<Expr, TextFault>
 
 #[tactic(auto, unfolding(crate::specs::Expressions::variable))]
 fn variable(cursor: &mut Cursor<'_>) -> Result<Expr, TextFault>
-    ensures { Reads (spec.variable cursor.old) result cursor.new }
+    ensures { ReadsExactly (spec.variable cursor.old) result cursor.new }
 {
     cursor.node()?;
     Ok(Expr::Var(cursor.variable()?))
@@ -73,7 +73,7 @@ fn variable(cursor: &mut Cursor<'_>) -> Result<Expr, TextFault>
 
 #[tactic(auto, unfolding(crate::specs::Expressions::in_state))]
 fn in_state(cursor: &mut Cursor<'_>, depth: usize) -> Result<Expr, TextFault>
-    ensures { Reads (spec.in_state depth cursor.old) result cursor.new }
+    ensures { ReadsExactly (spec.in_state depth cursor.old) result cursor.new }
 {
     cursor.node()?;
     cursor.take();
@@ -85,7 +85,7 @@ fn in_state(cursor: &mut Cursor<'_>, depth: usize) -> Result<Expr, TextFault>
 
 #[tactic(auto, unfolding(crate::specs::Expressions::count_of))]
 fn count_of(cursor: &mut Cursor<'_>, depth: usize) -> Result<Expr, TextFault>
-    ensures { Reads (spec.count_of depth cursor.old) result cursor.new }
+    ensures { ReadsExactly (spec.count_of depth cursor.old) result cursor.new }
 {
     cursor.node()?;
     cursor.take();
@@ -94,7 +94,7 @@ fn count_of(cursor: &mut Cursor<'_>, depth: usize) -> Result<Expr, TextFault>
 
 #[tactic(auto, unfolding(crate::specs::Expressions::done_of))]
 fn done_of(cursor: &mut Cursor<'_>, depth: usize) -> Result<Expr, TextFault>
-    ensures { Reads (spec.done_of depth cursor.old) result cursor.new }
+    ensures { ReadsExactly (spec.done_of depth cursor.old) result cursor.new }
 {
     cursor.node()?;
     cursor.take();

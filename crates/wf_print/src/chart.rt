@@ -22,7 +22,7 @@ fn declared_events(chart: &Chart) -> &[Event]
 
 // The canonical text of any chart.
 #[tactic(auto, unfolding(crate::specs::ChartText::chart_text))]
-pub fn text_of(alloc: Global, chart: &Chart) -> Result<Bytes, NoMemory>
+fn text_of(alloc: Global, chart: &Chart) -> Result<Bytes, NoMemory>
     ensures { IfOk result (λ text. text ≡ chart_text chart.now) }
 {
     let table = children(alloc, chart)?;
@@ -38,7 +38,8 @@ pub fn text_of(alloc: Global, chart: &Chart) -> Result<Bytes, NoMemory>
 }
 
 /// The canonical text of a chart: one declaration on a line, each state on a line of its own, every operator in
-/// parentheses. Linear in the chart and the text.
+/// parentheses. By the grammar it is a text of this chart, and the reader reads it back, if it isn't too long: these are
+/// `checked_is_spelled` and `checked_is_read_back` of `wf_readback`. Linear in the chart and the text.
 pub fn print_chart(alloc: Global, checked: &Checked) -> Result<Bytes, NoMemory>
     ensures { IfOk result (λ text. text ≡ chart_text checked.now) }
 {

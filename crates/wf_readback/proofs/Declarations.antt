@@ -21,12 +21,13 @@ use Rattle.wf_text.specs.Declarations as decl
 use Rattle.wf_grammar.specs.Lexemes.{Lexeme}
 use Rattle.wf_grammar.specs.Phrases.{Names, Is, IsNameOf}
 use Rattle.wf_grammar.specs.Laws.{first_piece}
-use Rattle.wf_canon.specs.Spans.{Span, lexemes_of}
-use Rattle.wf_canon.specs.Expressions.{sign, blank}
-use Rattle.wf_canon.specs.Charts as spans
-use Rattle.wf_canon.specs.Charts.{one, first, between, parting, line_end, behind_commas, listed, place_of, literal_spans, is_short_value}
-use Rattle.wf_canon.proofs.Named.{name_lexeme, unit_named, var_named}
-use Rattle.wf_readback.specs.Declares.{unit_of, event_of, var_of, act_of}
+use Rattle.wf_readback.proofs.Spans.{Span, lexemes_of}
+use Rattle.wf_readback.proofs.ExprSpans.{sign, blank}
+use Rattle.wf_readback.proofs.ChartSpans as spans
+use Rattle.wf_readback.specs.Held.{is_short_value}
+use Rattle.wf_readback.proofs.ChartSpans.{one, first, between, parting, line_end, behind_commas, listed, place_of, literal_spans}
+use Rattle.wf_readback.proofs.ChartNames.{name_lexeme, unit_named, var_named}
+use Rattle.wf_readback.proofs.Declares.{unit_of, event_of, var_of, act_of}
 use Rattle.wf_readback.proofs.New.{found_before}
 use Rattle.wf_readback.proofs.Steps.{Made, At, Answers, expect_step, eat_step, eat_none, piece_at, left_at, variable_step, unit_step}
 use Rattle.wf_readback.proofs.Pieces.{word_lexeme, sign_lexeme, semicolon_is, comma_is}
@@ -127,10 +128,10 @@ module _ (chart : Chart) (named : is_named chart ≡ true) where
   IsKnownPlace None = Unit {0}
   IsKnownPlace (Some u) = nat_lt u.0 (length chart.units) ≡ true
 
-  placed_reads : (u : Option UnitId) (i : Input) (ws : List Lexeme) (m : Made) → HasUnits m.names → IsKnownPlace u → At i (lexemes_of (place_of chart u) ++ semicolon ∷ ws) m → Answers (decl.placed i) u (semicolon ∷ ws) m
-  unfolding decl.placed
-  placed_reads None i ws m has known at = let a = eat_none pieces.At i (semicolon ∷ ws) m at (no_at ws) in record { behind = a.behind; is = rw a.is refl; at = a.at }
-  placed_reads (Some u) i ws m has known at =
+  unit_if_any_reads : (u : Option UnitId) (i : Input) (ws : List Lexeme) (m : Made) → HasUnits m.names → IsKnownPlace u → At i (lexemes_of (place_of chart u) ++ semicolon ∷ ws) m → Answers (decl.unit_if_any i) u (semicolon ∷ ws) m
+  unfolding decl.unit_if_any
+  unit_if_any_reads None i ws m has known at = let a = eat_none pieces.At i (semicolon ∷ ws) m at (no_at ws) in record { behind = a.behind; is = rw a.is refl; at = a.at }
+  unit_if_any_reads (Some u) i ws m has known at =
       let w = word_lexeme (unit_name chart u) in
       let a = eat_step pieces.At i (word_lexeme (codes "at")) (w ∷ semicolon ∷ ws) m at at_is in
       let b = unit_step a.behind w (semicolon ∷ ws) m a.at u (unit_name_is m.names has u known) in
@@ -157,7 +158,7 @@ module _ (chart : Chart) (named : is_named chart ≡ true) where
       let a = expect_step pieces.Event i (word_lexeme (codes "event")) (word_lexeme x.name ∷ rest) m at event_is in
       let id = next_event_is a.behind _ m a.at in
       let b = naming (event_of (length m.events)) a.behind x.name rest m new a.at in
-      let c = placed_reads x.unit b.behind ws n (has_units_more m x.name (event_of (length m.events)) new has) known b.at in
+      let c = unit_if_any_reads x.unit b.behind ws n (has_units_more m x.name (event_of (length m.events)) new has) known b.at in
       let d = expect_step pieces.Semicolon c.behind semicolon ws n c.at semicolon_is in
       record { behind = with_event x d.behind; is = rw a.is (rw id (rw b.is (rw c.is (rw d.is refl)))); at = with_event_at d.behind ws n x d.at }
 
@@ -212,11 +213,11 @@ module _ (chart : Chart) (named : is_named chart ≡ true) where
   some_output : (x : VarId) → 1 ≤ length (lexemes_of ((sign (codes ",") ∷ blank ∷ []) ++ output_spans x))
   some_output x = omega arith
 
-  given_reads : (xs : List VarId) (i : Input) (ws : List Lexeme) (m : Made) → HasVars m.names → AreKnownVars xs → At i (lexemes_of (listed (between (codes "gives")) output_spans xs) ++ semicolon ∷ ws) m
-      → Answers (decl.given i) xs (semicolon ∷ ws) m
-  unfolding decl.given decl.outputs
-  given_reads [] i ws m has known at = let a = eat_none pieces.Gives i (semicolon ∷ ws) m at (no_gives ws) in record { behind = a.behind; is = rw a.is refl; at = a.at }
-  given_reads (x ∷ xs) i ws m has known at =
+  outputs_if_any_reads : (xs : List VarId) (i : Input) (ws : List Lexeme) (m : Made) → HasVars m.names → AreKnownVars xs → At i (lexemes_of (listed (between (codes "gives")) output_spans xs) ++ semicolon ∷ ws) m
+      → Answers (decl.outputs_if_any i) xs (semicolon ∷ ws) m
+  unfolding decl.outputs_if_any decl.outputs
+  outputs_if_any_reads [] i ws m has known at = let a = eat_none pieces.Gives i (semicolon ∷ ws) m at (no_gives ws) in record { behind = a.behind; is = rw a.is refl; at = a.at }
+  outputs_if_any_reads (x ∷ xs) i ws m has known at =
       let rest = lexemes_of (behind_commas output_spans xs) in
       let us = rest ++ semicolon ∷ ws in
       let w = word_lexeme (var_name chart x) in
@@ -244,7 +245,7 @@ module _ (chart : Chart) (named : is_named chart ≡ true) where
       let b = naming what a.behind x.name (word_lexeme (codes "at") ∷ unit ∷ rest) m new a.at in
       let c = expect_step pieces.At b.behind (word_lexeme (codes "at")) (unit ∷ rest) n b.at at_is in
       let d = unit_step c.behind unit rest n c.at x.unit (unit_name_is n.names (has_units_more m x.name what new has) x.unit known) in
-      let g = given_reads x.outputs d.behind ws n (has_vars_more m x.name what vars) outputs d.at in
+      let g = outputs_if_any_reads x.outputs d.behind ws n (has_vars_more m x.name what vars) outputs d.at in
       let h = expect_step pieces.Semicolon g.behind semicolon ws n g.at semicolon_is in
       record { behind = with_act x h.behind; is = rw a.is (rw id (rw b.is (rw c.is (rw d.is (rw g.is (rw h.is refl)))))); at = with_act_at h.behind ws n x h.at }
 

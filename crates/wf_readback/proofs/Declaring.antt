@@ -32,10 +32,11 @@ use Rattle.wf_grammar.specs.Lexemes.{Lexeme, lexeme_of, lexemes}
 use Rattle.wf_grammar.specs.Phrases.{Is}
 use Rattle.wf_grammar.proofs.Inputs.{here, spelling_here, next_here, declared_here}
 use Rattle.wf_grammar.proofs.SpellSteps.{sees_here, text_here, headed}
-use Rattle.wf_canon.specs.Spans.{lexeme, lexemes_of}
-use Rattle.wf_canon.specs.Charts.{is_short_value, literal_spans}
-use Rattle.wf_canon.proofs.Literals.{decimal_is, text_is_read}
-use Rattle.wf_canon.proofs.Named.{below}
+use Rattle.wf_readback.proofs.Spans.{lexeme, lexemes_of}
+use Rattle.wf_readback.specs.Held.{is_short_value}
+use Rattle.wf_readback.proofs.ChartSpans.{literal_spans}
+use Rattle.wf_readback.proofs.Literals.{decimal_is, text_is_read}
+use Rattle.wf_readback.proofs.ChartNames.{below}
 use Rattle.wf_readback.proofs.Steps.{Made, made_of, At, Answers, one_token, next_at, name_here, piece_at}
 
 -- ---- new names

@@ -11,10 +11,11 @@ use Rattle.wf_model.specs.declared.chart.Chart.{Chart}
 use Rattle.wf_model.specs.Accepted.{IsAccepted, is_accepted, is_small, nodes, all_of, is_known_expr, is_known_action, is_known_transition, is_small_action, is_small_transition}
 use Rattle.wf_model.proofs.Bools.{and_both}
 use Rattle.wf_grammar.proofs.Inputs.{fits_is}
-use Rattle.wf_canon.specs.Expressions.{has_short_literals}
-use Rattle.wf_canon.specs.Charts.{is_short_value, is_short_action, is_short_transition, is_short}
-use Rattle.wf_canon.proofs.Known.{is_named_of, known}
-use Rattle.wf_readback.specs.Laws.{TransitionsAreRead}
+use Rattle.wf_readback.proofs.ExprSpans.{has_short_literals}
+use Rattle.wf_readback.specs.Held.{is_short_value}
+use Rattle.wf_readback.proofs.ChartSpans.{is_short_action, is_short_transition, is_short}
+use Rattle.wf_readback.proofs.Known.{is_named_of, known}
+use Rattle.wf_readback.proofs.Reading.{TransitionsAreRead}
 use Rattle.wf_readback.proofs.Steps.{made_of, at_end}
 use Rattle.wf_readback.proofs.Transitions.{IsFitAction, AreFitActions, IsFitGuard, IsKnownCause, IsFitTransition, AreFitTransitions, transitions_step}
 

@@ -20,14 +20,15 @@ use Rattle.wf_text.specs.Declarations as decl
 use Rattle.wf_grammar.specs.Lexemes.{Lexeme}
 use Rattle.wf_grammar.specs.Phrases.{Names}
 use Rattle.wf_grammar.specs.Laws.{first_piece}
-use Rattle.wf_canon.specs.Spans.{Span, lexemes_of}
-use Rattle.wf_canon.specs.Charts as spans
-use Rattle.wf_canon.specs.Charts.{is_short_value, is_short_transition, is_short}
-use Rattle.wf_canon.proofs.Named.{has_names, name_piece, name_is_short, below}
-use Rattle.wf_canon.proofs.Known.{is_named_of, known, all_behind}
-use Rattle.wf_canon.proofs.Spelled.{lexemes-append}
-use Rattle.wf_readback.specs.Declares.{declared_from, unit_of, event_of, var_of, act_of, fault_alone, names_before_states}
-use Rattle.wf_readback.specs.Laws.{DeclarationsAreRead, declaration_lines, with_fault_alone}
+use Rattle.wf_readback.proofs.Spans.{Span, lexemes_of}
+use Rattle.wf_readback.proofs.ChartSpans as spans
+use Rattle.wf_readback.specs.Held.{is_short_value}
+use Rattle.wf_readback.proofs.ChartSpans.{is_short_transition, is_short}
+use Rattle.wf_readback.proofs.ChartNames.{has_names, name_piece, name_is_short, below}
+use Rattle.wf_readback.proofs.Known.{is_named_of, known, all_behind}
+use Rattle.wf_readback.proofs.ExprSpelled.{lexemes-append}
+use Rattle.wf_readback.proofs.Declares.{declared_from, unit_of, event_of, var_of, act_of, fault_alone, names_before_states}
+use Rattle.wf_readback.proofs.Reading.{DeclarationsAreRead, declaration_lines, with_fault_alone}
 use Rattle.wf_readback.proofs.New.{AreNewIn, each_found, found_before}
 use Rattle.wf_readback.proofs.Named.{HasFault, has_fault, events_behind, after_units, after_events, after_vars, Orders, orders, at_zero}
 use Rattle.wf_readback.proofs.Steps.{Made, made_of, At, Answers, piece_at, left_at}

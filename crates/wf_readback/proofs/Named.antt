@@ -17,9 +17,9 @@ use Rattle.wf_cursor.specs.declared.names.Declared.{Declared}
 use Rattle.wf_cursor.specs.Names.{declared_as}
 use Rattle.wf_words.specs.Names.{unit_name, var_name, act_name}
 use Rattle.wf_grammar.specs.Phrases.{Names}
-use Rattle.wf_canon.proofs.Known.{is_named_of}
-use Rattle.wf_readback.specs.Declares.{declared_from, unit_of, event_of, var_of, act_of, state_of, fault_alone, names_before_states, all_names}
-use Rattle.wf_readback.specs.Laws.{NamesAreDeclared}
+use Rattle.wf_readback.proofs.Known.{is_named_of}
+use Rattle.wf_readback.proofs.Declares.{declared_from, unit_of, event_of, var_of, act_of, state_of, fault_alone, names_before_states, all_names}
+use Rattle.wf_readback.proofs.Reading.{NamesAreDeclared}
 use Rattle.wf_readback.proofs.New.{AreNew, AreNewIn, Covers, kind_of, are_new, to_front, each_found, found_before}
 
 abbrev pub events_behind : Chart → List Event

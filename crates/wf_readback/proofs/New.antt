@@ -11,7 +11,7 @@ use Rattle.wf_model.proofs.Bools.{and_both}
 use Rattle.wf_cursor.specs.declared.names.Declared.{Declared}
 use Rattle.wf_cursor.specs.Names.{declared_as}
 use Rattle.wf_grammar.specs.Phrases.{Names}
-use Rattle.wf_readback.specs.Declares.{declared_from}
+use Rattle.wf_readback.proofs.Declares.{declared_from}
 
 -- the name is none of these
 abbrev pub IsOther : List (List ℕ) → List ℕ → Type 0

@@ -11,8 +11,8 @@ use Rattle.wf_semantics.proofs.Facts.{IsChart, chart_of}
 use Rattle.wf_semantics.proofs.Setting.{IsAncestry}
 use Rattle.wf_semantics.proofs.Charts.{falls, chart_ancestry, root_above}
 use Rattle.wf_print.specs.Nested.{depth}
-use Rattle.wf_readback.specs.Order.{states_from, IsRun, IsInOrder}
-use Rattle.wf_readback.specs.Laws.{StatesAreInOrder}
+use Rattle.wf_readback.proofs.Order.{states_from, IsRun, IsInOrder}
+use Rattle.wf_readback.proofs.Reading.{StatesAreInOrder}
 use Rattle.wf_readback.proofs.States.{depth_child}
 
 run_join : (k : ℕ) (xs ys : List ℕ) → IsRun k xs → IsRun (k + length xs) ys → IsRun k (xs ++ ys)

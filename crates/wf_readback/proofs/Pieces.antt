@@ -8,7 +8,7 @@ use Rattle.wf_cursor.specs.Pieces.{piece_of, word_piece, state_word, moving_word
 use Rattle.wf_grammar.specs.Lexemes.{Lexeme}
 use Rattle.wf_grammar.specs.Phrases.{Is}
 use Rattle.wf_grammar.specs.Laws.{IsNoOperator}
-use Rattle.wf_canon.specs.Spans.{lexeme}
+use Rattle.wf_readback.proofs.Spans.{lexeme}
 
 abbrev pub word_lexeme : List ℕ → Lexeme
 word_lexeme bytes = lexeme kinds.Word bytes

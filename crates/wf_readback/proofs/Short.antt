@@ -23,10 +23,11 @@ use Rattle.wf_model.specs.Accepted.{IsAccepted, is_accepted, is_sorted, is_sorte
 use Rattle.wf_model.proofs.Bools.{and_both, and_true}
 use Rattle.wf_semantics.proofs.Children.{item_at}
 use Rattle.wf_model.specs.Limits.{max_int}
-use Rattle.wf_canon.specs.Expressions.{has_short_literals}
-use Rattle.wf_canon.specs.Charts.{is_short_value, is_short_action, is_short_transition, is_short}
-use Rattle.wf_canon.proofs.Named.{below}
-use Rattle.wf_canon.proofs.Known.{known}
+use Rattle.wf_readback.proofs.ExprSpans.{has_short_literals}
+use Rattle.wf_readback.specs.Held.{is_short_value}
+use Rattle.wf_readback.proofs.ChartSpans.{is_short_action, is_short_transition, is_short}
+use Rattle.wf_readback.proofs.ChartNames.{below}
+use Rattle.wf_readback.proofs.Known.{known}
 use Rattle.wf_readback.specs.Held.{has_short_texts, is_held_action, is_held_transition, is_held}
 
 record HasSort (r : Result Sort TypeFault) : Type 0 where

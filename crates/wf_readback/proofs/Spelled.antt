@@ -1,5 +1,6 @@
--- The canonical text of a chart is in the grammar.
-use Rattle.std.proofs.Common.{◌≡◌, ◌≤◌, List, [], ◌∷◌, ◌++◌, length, sym, ◌∙◌, ap, subst, append-nil}
+-- The canonical text of a chart is a text of it by the grammar, and is read back.
+use Rattle.std.proofs.Common.{◌≡◌, ◌≤◌, ℕ, List, [], ◌∷◌, ◌++◌, length, sym, ◌∙◌, ap, subst, arith, append-nil, length-append}
+use Rattle.std.proofs.lemmas.List.{length-map}
 use lib.Chars.{codes}
 use Rattle.wf_model.specs.Limits.{max_tokens}
 use Rattle.wf_model.specs.declared.chart.State.{State}
@@ -8,23 +9,24 @@ use Rattle.wf_model.specs.Accepted.{IsAccepted}
 use Rattle.wf_lex.specs.declared.token.Token.{Token}
 use Rattle.wf_lex.proofs.Sliced.{tokens_sliced}
 use Rattle.wf_cursor.specs.Input.{Input, chart_with}
-use Rattle.wf_grammar.specs.Lexemes.{Lexeme}
+use Rattle.wf_print.specs.ChartText.{chart_text}
+use Rattle.wf_grammar.specs.Lexemes.{Lexeme, lexeme_of}
 use Rattle.wf_grammar.specs.Scopes.{Scope, first_scope}
 use Rattle.wf_grammar.specs.Declaring.{Declarations}
 use Rattle.wf_grammar.specs.Charts.{IsChart, is_chart}
-use Rattle.wf_grammar.specs.ChartLaws.{scope_of}
+use Rattle.wf_grammar.proofs.Rules.{scope_of}
 use Rattle.wf_grammar.proofs.ChartRead.{chart_read}
 use Rattle.wf_grammar.proofs.ChartSpelled.{chart_spelled}
 use Rattle.wf_grammar.proofs.Declared.{declarations_read}
 use Rattle.wf_grammar.proofs.Drawn.{root_read}
 use Rattle.wf_grammar.proofs.Moved.{transitions_read}
-use Rattle.wf_canon.specs.Spans.{lexemes_of}
-use Rattle.wf_canon.specs.Charts.{chart_spans}
-use Rattle.wf_canon.proofs.Named.{has_names, name_piece, name_is_short}
-use Rattle.wf_canon.proofs.Known.{is_named_of}
-use Rattle.wf_canon.proofs.Slices.{answered, cuts_are_equal}
-use Rattle.wf_canon.proofs.ChartFits.{every_chart_is_cut}
-use Rattle.wf_readback.specs.Laws.{MeantIsTextOf, TextOfFewIsMeant, ChartIsSpelled}
+use Rattle.wf_readback.proofs.Spans.{Span, written, lexemes_of, AreApart}
+use Rattle.wf_readback.proofs.ChartSpans.{chart_spans}
+use Rattle.wf_readback.proofs.ChartNames.{has_names, name_piece, name_is_short}
+use Rattle.wf_readback.proofs.Known.{is_named_of}
+use Rattle.wf_readback.proofs.Slices.{answered, cuts_are_equal}
+use Rattle.wf_readback.proofs.ChartFits.{chart_fits, every_chart_is_cut}
+use Rattle.wf_readback.specs.Laws.{MeantIsTextOf, TextOfFewIsMeant, ChartIsSpelled, ChartIsReadBack, ShortTextIsReadBack}
 use Rattle.wf_readback.proofs.Steps.{Made, made_of}
 use Rattle.wf_readback.proofs.Pieces.{word_lexeme, sign_lexeme, semicolon_is}
 use Rattle.wf_readback.proofs.Loops.{start}
@@ -76,3 +78,24 @@ chart_is_spelled chart accepted held =
     let cut = every_chart_is_cut chart accepted (short_of chart accepted held) in
     let p = parsed chart accepted held _ cut.0 cut.2 in
     (cut.0, cut.1, subst (λ (ws : List Lexeme). IsChart ws chart) (sym cut.2) (spelled chart accepted _ p))
+
+pub chart_is_read_back : ChartIsReadBack
+chart_is_read_back chart tokens accepted held cut few = text_of_few_is_meant (chart_text chart) tokens chart cut few (chart_is_spelled chart accepted held)
+
+-- ---- short texts
+
+few_lexemes : (spans : List Span) (rest : List ℕ) → AreApart spans rest → length (lexemes_of spans) ≤ length (written spans)
+few_lexemes [] rest apart = omega arith
+few_lexemes (Span.gap bytes ∷ spans) rest apart = omega (arith, length-append bytes (written spans), few_lexemes spans rest apart.1)
+few_lexemes (Span.token kind [] ∷ spans) rest apart = absurd apart.0
+few_lexemes (Span.token kind (b ∷ bs) ∷ spans) rest apart = omega (arith, length-append (b ∷ bs) (written spans), few_lexemes spans rest apart.2)
+
+pub short_text_is_read_back : ShortTextIsReadBack
+short_text_is_read_back chart accepted held few =
+    let short = short_of chart accepted held in
+    let fits = chart_fits chart accepted short in
+    let cut = every_chart_is_cut chart accepted short in
+    let count : length cut.0 ≡ length (lexemes_of (chart_spans chart)) = sym (length-map cut.0 (lexeme_of (chart_text chart))) ∙ ap length cut.2 in
+    let size = ap length fits.says in
+    chart_is_read_back chart cut.0 accepted held cut.1
+    (omega (arith, few, size, count, few_lexemes (chart_spans chart) [] (fits.apart [] tt)))

@@ -33,14 +33,14 @@ use Rattle.wf_text.specs.States as text
 use Rattle.wf_grammar.specs.Lexemes.{Lexeme}
 use Rattle.wf_grammar.specs.Phrases.{Is}
 use Rattle.wf_grammar.specs.Laws.{first_piece}
-use Rattle.wf_canon.specs.Spans.{Span, lexemes_of}
-use Rattle.wf_canon.specs.Charts as spans
-use Rattle.wf_canon.specs.Charts.{one, between, line_end, kind_spans, state_spans}
-use Rattle.wf_canon.proofs.Named.{has_names, name_piece, name_is_short}
-use Rattle.wf_canon.proofs.Known.{is_named_of, known}
-use Rattle.wf_canon.proofs.Spelled.{lexemes-append}
-use Rattle.wf_readback.specs.Declares.{declared_from, state_of, names_before_states}
-use Rattle.wf_readback.specs.Order.{states_from, IsRun}
+use Rattle.wf_readback.proofs.Spans.{Span, lexemes_of}
+use Rattle.wf_readback.proofs.ChartSpans as spans
+use Rattle.wf_readback.proofs.ChartSpans.{one, between, line_end, kind_spans, state_spans}
+use Rattle.wf_readback.proofs.ChartNames.{has_names, name_piece, name_is_short}
+use Rattle.wf_readback.proofs.Known.{is_named_of, known}
+use Rattle.wf_readback.proofs.ExprSpelled.{lexemes-append}
+use Rattle.wf_readback.proofs.Declares.{declared_from, state_of, names_before_states}
+use Rattle.wf_readback.proofs.Order.{states_from, IsRun}
 use Rattle.wf_readback.proofs.New.{AreNewIn, found_before}
 use Rattle.wf_readback.proofs.Steps.{Made, At, Answers, expect_step, eat_step, eat_none, next_at, piece_at, left_at, unit_step}
 use Rattle.wf_readback.proofs.Pieces.{word_lexeme, sign_lexeme, semicolon_is}
@@ -196,11 +196,11 @@ module _ (chart : Chart) (accepted : IsAccepted chart) (new : AreNewIn (λ (y : 
       let named = all_at (λ (y : State). is_name y.name) chart.states s state names.states is in
       record { piece = name_piece state.name named; short = name_is_short state.name named; new = new_here (names_before_states chart) 0 chart.states s state new is }
 
-  placed_step : (s : ℕ) (state : State) (parent : Option StateId) (i : Input) (ws : List Lexeme) → slice_get chart.states s ≡ Some state → state.parent ≡ parent
+  head_step : (s : ℕ) (state : State) (parent : Option StateId) (i : Input) (ws : List Lexeme) → slice_get chart.states s ≡ Some state → state.parent ≡ parent
       → At i (word_lexeme (kind_bytes state.kind) ∷ word_lexeme state.name ∷ word_lexeme (codes "at") ∷ word_lexeme (unit_name chart state.unit) ∷ ws) (up_to s)
-      → Answers (text.placed parent i) (record { 0 = s }) ws (up_to (suc s))
-  unfolding text.placed
-  placed_step s state parent i ws is up at =
+      → Answers (text.head parent i) (record { 0 = s }) ws (up_to (suc s))
+  unfolding text.head
+  head_step s state parent i ws is up at =
       let m = up_to s in
       let n = with_new m state.name (state_of s) in
       let unit = word_lexeme (unit_name chart state.unit) in
@@ -318,10 +318,10 @@ module _ (chart : Chart) (accepted : IsAccepted chart) (new : AreNewIn (λ (y : 
       record { behind = g.behind; is = rw a.is (rw e.is g.is); at = subst (λ (j : ℕ). At g.behind ws (up_to j)) total g.at }
 
   -- what follows a state's own line
-  body_step : (levels d braces s : ℕ) (i : Input) (ws : List Lexeme) → Below levels (d + 1) s (text.state_with (text.opened braces) (Some (record { 0 = s }))) → (cs : List ℕ) (leaf : Bool) → (length cs == 0) ≡ leaf → AreChildren s cs
+  body_step : (levels d braces s : ℕ) (i : Input) (ws : List Lexeme) → Below levels (d + 1) s (text.state_with (text.block braces) (Some (record { 0 = s }))) → (cs : List ℕ) (leaf : Bool) → (length cs == 0) ≡ leaf → AreChildren s cs
       → IsRun (suc s) (inner_order levels cs) → At i (lexemes_of (spans.body d leaf (inner_spans levels (d + 1) cs)) ++ ws) (up_to (suc s))
-      → Answers (text.body_by (text.opened (suc braces) (record { 0 = s })) (first_piece (lexemes_of (spans.body d leaf (inner_spans levels (d + 1) cs)) ++ ws)) i) tt ws (up_to (suc s + length (inner_order levels cs)))
-  unfolding text.opened text.children
+      → Answers (text.body_by (text.block (suc braces) (record { 0 = s })) (first_piece (lexemes_of (spans.body d leaf (inner_spans levels (d + 1) cs)) ++ ws)) i) tt ws (up_to (suc s + length (inner_order levels cs)))
+  unfolding text.block text.children
   body_step levels d braces s i ws below [] false is are run at = cc
   body_step levels d braces s i ws below [] true is are run at =
       let same : suc s ≡ suc s + 0 = omega arith in
@@ -334,19 +334,19 @@ module _ (chart : Chart) (accepted : IsAccepted chart) (new : AreNewIn (λ (y : 
   body_step levels d braces s i ws below (c ∷ cs) false is are run at =
       let inside = inner_spans levels (d + 1) (c ∷ cs) in
       let end = sign_lexeme (codes "}") ∷ ws in
-      let child = text.state_with (text.opened braces) (Some (record { 0 = s })) in
+      let child = text.state_with (text.block braces) (Some (record { 0 = s })) in
       let grouped : lexemes_of (spans.body d false inside) ++ ws ≡ sign_lexeme (codes "{") ∷ (lexemes_of inside ++ end) =
       ap (λ ls. sign_lexeme (codes "{") ∷ ls) (two_parts inside (spans.closing d) ws) in
       let begins = next_at i (sign_lexeme (codes "{")) (lexemes_of inside ++ end) (up_to (suc s)) (regrouped i _ _ (up_to (suc s)) grouped at) in
       let enough : length (c ∷ cs) < length (next i).left =
       omega (arith, left_at (next i) (lexemes_of inside ++ end) (up_to (suc s)) begins, length-append (lexemes_of inside) end, many_children levels (d + 1) s child below (c ∷ cs) are) in
       let a = children_step levels (d + 1) s child below (c ∷ cs) (length (next i).left) (suc s) (next i) ws enough are run begins in
-      record { behind = a.behind; is = ap (λ (p : Piece). text.body_by (text.opened (suc braces) (record { 0 = s })) (Some p) i) open_is ∙ a.is; at = a.at }
+      record { behind = a.behind; is = ap (λ (p : Piece). text.body_by (text.block (suc braces) (record { 0 = s })) (Some p) i) open_is ∙ a.is; at = a.at }
 
   -- a state, and all below it
   pub state_step : (levels d braces s : ℕ) (state : State) (parent : Option StateId) (i : Input) (ws : List Lexeme) → levels + d ≡ max_depth → depth chart s ≡ d → levels ≤ braces
       → slice_get chart.states s ≡ Some state → state.parent ≡ parent → IsRun s (states_from chart levels s) → At i (lexemes_of (state_spans chart levels d s) ++ ws) (up_to s)
-      → Answers (text.state_with (text.opened braces) parent i) tt ws (up_to (s + length (states_from chart levels s)))
+      → Answers (text.state_with (text.block braces) parent i) tt ws (up_to (s + length (states_from chart levels s)))
   unfolding text.state_with
   state_step zero d braces s state parent i ws total deep room is up run at =
       let within : depth chart s < max_depth = (chart_of chart accepted).few_ancestors s (get_within chart.states s state is) in
@@ -357,8 +357,8 @@ module _ (chart : Chart) (accepted : IsAccepted chart) (new : AreNewIn (λ (y : 
       let cs = children chart s in
       let body = spans.body d (length cs == 0) (inner_spans levels (d + 1) cs) in
       let rest = lexemes_of body ++ ws in
-      let a = placed_step s state parent i rest is up (regrouped i _ _ (up_to s) (line_is levels d s state ws is) at) in
-      let below : Below levels (d + 1) s (text.state_with (text.opened braces) (Some (record { 0 = s }))) = record {
+      let a = head_step s state parent i rest is up (regrouped i _ _ (up_to s) (line_is levels d s state ws is) at) in
+      let below : Below levels (d + 1) s (text.state_with (text.block braces) (Some (record { 0 = s }))) = record {
         reads = λ c inner j vs there child_up child_run child_at.
             let deeper : depth chart c ≡ d + 1 = depth_child chart ok c s child_up ∙ ap (λ (n : ℕ). n + 1) deep in
             let own : inner.parent ≡ Some (record { 0 = s }) = parent_is inner.parent s (sym (ap (option_and_then parent_of) there) ∙ child_up) in

@@ -20,17 +20,17 @@ use Rattle.wf_cursor.specs.Pieces.{piece_of, same_piece, word_piece, state_word,
 use Rattle.wf_cursor.specs.Input.{Input, is_piece, next as skipped}
 use Rattle.wf_words.specs.Names.{event_name, var_name, act_name, state_name}
 use Rattle.wf_phrase.specs.Expressions.{expr}
-use Rattle.wf_text.specs.Transitions.{caused, guarded, assigned, raised, started, action, actions_from, actions, effects, transition, transitions_from, transitions}
+use Rattle.wf_text.specs.Transitions.{event_if_any, guard_if_any, assignment, raise_action, start_action, action, actions_from, actions, effects, transition, transitions_from, transitions}
 use Rattle.wf_grammar.specs.Lexemes.{Lexeme, lexeme_of}
 use Rattle.wf_grammar.specs.Phrases.{IsNameOf}
 use Rattle.wf_grammar.specs.Laws.{behind, first_piece, IsNoOperator}
-use Rattle.wf_canon.specs.Spans.{Span, lexemes_of}
-use Rattle.wf_canon.specs.Expressions.{AreDeclared, sign, blank, expr_spans, has_short_literals}
-use Rattle.wf_canon.specs.Charts.{between, line_end, behind_commas, listed, action_spans, ends, trigger, condition, transition_line}
-use Rattle.wf_canon.proofs.Spelled.{lexemes-append}
-use Rattle.wf_canon.proofs.Named.{below, name_lexeme, event_named, var_named, act_named, state_named}
-use Rattle.wf_canon.proofs.ReadBack.{expr_is_read}
-use Rattle.wf_readback.specs.Declares.{Declares}
+use Rattle.wf_readback.proofs.Spans.{Span, lexemes_of}
+use Rattle.wf_readback.proofs.ExprSpans.{AreDeclared, sign, blank, expr_spans, has_short_literals}
+use Rattle.wf_readback.proofs.ChartSpans.{between, line_end, behind_commas, listed, action_spans, ends, trigger, condition, transition_line}
+use Rattle.wf_readback.proofs.ExprSpelled.{lexemes-append}
+use Rattle.wf_readback.proofs.ChartNames.{below, name_lexeme, event_named, var_named, act_named, state_named}
+use Rattle.wf_readback.proofs.ExprRead.{expr_is_read}
+use Rattle.wf_readback.proofs.Declares.{Declares}
 use Rattle.wf_readback.proofs.Steps.{Made, At, Answers, names_at, expect_step, eat_step, eat_none, next_at, piece_at, sees_at, left_at, variable_step, state_step, activity_step, event_step}
 use Rattle.wf_readback.proofs.Pieces.{word_lexeme, sign_lexeme, from_is, to_is, on_is, if_is, do_is, raise_is, start_is, semicolon_is, comma_is, assign_is, no_operator_do, no_operator_semicolon, no_operator_comma}
 
@@ -153,27 +153,27 @@ module _ (chart : Chart) (named : is_named chart ≡ true) (m : Made) (are : Dec
         };
       }
 
-  caused_step : (event : Option EventId) (i : Input) (ws : List Lexeme) → IsKnownCause chart event → is_piece pieces.On (first_piece ws) ≡ false → At i (lexemes_of (trigger chart event) ++ ws) m
-      → Answers (caused i) event ws m
-  unfolding caused
-  caused_step None i ws known other at = let a = eat_none pieces.On i ws m at other in record { behind = a.behind; is = rw a.is refl; at = a.at }
-  caused_step (Some e) i ws known other at =
+  event_if_any_step : (event : Option EventId) (i : Input) (ws : List Lexeme) → IsKnownCause chart event → is_piece pieces.On (first_piece ws) ≡ false → At i (lexemes_of (trigger chart event) ++ ws) m
+      → Answers (event_if_any i) event ws m
+  unfolding event_if_any
+  event_if_any_step None i ws known other at = let a = eat_none pieces.On i ws m at other in record { behind = a.behind; is = rw a.is refl; at = a.at }
+  event_if_any_step (Some e) i ws known other at =
       let w = word_lexeme (event_name chart e) in
       let a = eat_step pieces.On i (word_lexeme (codes "on")) (w ∷ ws) m at on_is in
       let b = event_step a.behind w ws m a.at e (event_is e known) in
       record { behind = b.behind; is = rw a.is (rw b.is refl); at = b.at }
 
-  guarded_step : (guard : Option Expr) (i : Input) (ws : List Lexeme) → IsFitGuard chart guard → is_piece pieces.If (first_piece ws) ≡ false → IsNoOperator (first_piece ws)
-      → At i (lexemes_of (condition chart guard) ++ ws) m → Answers (guarded i) guard ws m
-  unfolding guarded
-  guarded_step None i ws fit other none at = let a = eat_none pieces.If i ws m at other in record { behind = a.behind; is = rw a.is refl; at = a.at }
-  guarded_step (Some x) i ws fit other none at =
+  guard_if_any_step : (guard : Option Expr) (i : Input) (ws : List Lexeme) → IsFitGuard chart guard → is_piece pieces.If (first_piece ws) ≡ false → IsNoOperator (first_piece ws)
+      → At i (lexemes_of (condition chart guard) ++ ws) m → Answers (guard_if_any i) guard ws m
+  unfolding guard_if_any
+  guard_if_any_step None i ws fit other none at = let a = eat_none pieces.If i ws m at other in record { behind = a.behind; is = rw a.is refl; at = a.at }
+  guard_if_any_step (Some x) i ws fit other none at =
       let a = eat_step pieces.If i (word_lexeme (codes "if")) (lexemes_of (expr_spans chart x) ++ ws) m at if_is in
       let b = expr_step x a.behind ws fit none a.at in
       record { behind = b.behind; is = rw a.is (rw b.is refl); at = b.at }
 
   action_step : (x : Action) (i : Input) (ws : List Lexeme) → IsFitAction chart x → IsNoOperator (first_piece ws) → At i (lexemes_of (action_spans chart x) ++ ws) m → Answers (action i) x ws m
-  unfolding action assigned raised started
+  unfolding action assignment raise_action start_action
   action_step (act.Assign x value) i ws fit none at =
       let w = word_lexeme (var_name chart x) in
       let us = lexemes_of (expr_spans chart value) ++ ws in
@@ -255,8 +255,8 @@ module _ (chart : Chart) (named : is_named chart ≡ true) (m : Made) (are : Dec
       let b = state_step a.behind source (word_lexeme (codes "to") ∷ target ∷ rest) m a.at t.source (state_is t.source fit.source) in
       let c = expect_step pieces.To b.behind (word_lexeme (codes "to")) (target ∷ rest) m b.at to_is in
       let d = state_step c.behind target rest m c.at t.target (state_is t.target fit.target) in
-      let g = caused_step t.event d.behind guard fit.event (no_on chart t.guard t.actions ws) d.at in
-      let h = guarded_step t.guard g.behind (behind_actions chart t.actions ws) fit.guard (no_if chart t.actions ws) (actions_end chart t.actions ws) g.at in
+      let g = event_if_any_step t.event d.behind guard fit.event (no_on chart t.guard t.actions ws) d.at in
+      let h = guard_if_any_step t.guard g.behind (behind_actions chart t.actions ws) fit.guard (no_if chart t.actions ws) (actions_end chart t.actions ws) g.at in
       let k = effects_step t.actions h.behind ws fit.actions h.at in
       let l = expect_step pieces.Semicolon k.behind semicolon ws m k.at semicolon_is in
       record { behind = l.behind; is = rw a.is (rw b.is (rw c.is (rw d.is (rw g.is (rw h.is (rw k.is (rw l.is refl))))))); at = l.at }

@@ -1,4 +1,4 @@
--- The canonical text of a chart is read back.
+-- The rules of the reader read the whole of a canonical text.
 use Rattle.std.proofs.Common.{◌≡◌, ℕ, ◌+◌, ◌-◌, ◌≤◌, true, List, [], ◌∷◌, ◌++◌, length, take, drop, flat_map, slice_get, map, Option, Some, None, Ok, refl, sym, ◌∙◌, ap, ap₂, subst, arith, append-nil, length-append, append_assoc}
 use Rattle.std.specs.Option.{option_map}
 use Rattle.std.proofs.lemmas.List.{take_all}
@@ -32,16 +32,15 @@ use Rattle.wf_grammar.specs.Lexemes.{Lexeme, lexeme_of, lexemes}
 use Rattle.wf_grammar.specs.Phrases.{Is}
 use Rattle.wf_grammar.specs.Laws.{first_piece}
 use Rattle.wf_grammar.proofs.Inputs.{here, spelling_here, next_here}
-use Rattle.wf_canon.specs.Spans.{Span, written, lexemes_of, AreApart}
-use Rattle.wf_canon.specs.Charts as spans
-use Rattle.wf_canon.specs.Charts.{state_spans, transition_line, chart_spans, is_short}
-use Rattle.wf_canon.proofs.Named.{has_names, name_piece, name_is_short}
-use Rattle.wf_canon.proofs.Known.{is_named_of}
-use Rattle.wf_canon.proofs.ChartFits.{chart_fits, chart_is_cut}
-use Rattle.wf_readback.specs.Declares.{declared_from, state_of, names_before_states, all_names}
-use Rattle.wf_readback.specs.Order.{states_from, IsInOrder}
+use Rattle.wf_readback.proofs.Spans.{Span, written, lexemes_of, AreApart}
+use Rattle.wf_readback.proofs.ChartSpans as spans
+use Rattle.wf_readback.proofs.ChartSpans.{state_spans, transition_line, chart_spans, is_short}
+use Rattle.wf_readback.proofs.ChartNames.{has_names, name_piece, name_is_short}
+use Rattle.wf_readback.proofs.Known.{is_named_of}
+use Rattle.wf_readback.proofs.Declares.{declared_from, state_of, names_before_states, all_names}
+use Rattle.wf_readback.proofs.Order.{states_from, IsInOrder}
 use Rattle.wf_readback.specs.Held.{is_held}
-use Rattle.wf_readback.specs.Laws.{declaration_lines, ChartIsReadBack, ShortTextIsReadBack}
+use Rattle.wf_readback.proofs.Reading.{declaration_lines}
 use Rattle.wf_readback.proofs.New.{found_before}
 use Rattle.wf_readback.proofs.Steps.{Made, made_of, At, Answers, one_token, name_here, expect_step, piece_at, left_at}
 use Rattle.wf_readback.proofs.Pieces.{word_lexeme, sign_lexeme, semicolon_is}
@@ -73,8 +72,8 @@ name_step i name ws m h at =
     let short : length (lexeme_of i.text t).bytes ≤ max_name = subst (λ (l : Lexeme). length l.bytes ≤ max_name) (sym same) (name_is_short name h) in
     name_reads i t rest i.at i.nodes is short ∙ ap (λ (l : Lexeme). Ok (l.bytes, here i rest (i.at + 1) i.nodes)) same)
 
-finished_step : (i : Input) (m : Made) → At i [] m → text.finished i ≡ Ok (tt, i)
-finished_step i m at = rw (left_at i [] m at) refl
+text_end_step : (i : Input) (m : Made) → At i [] m → text.text_end i ≡ Ok (tt, i)
+text_end_step i m at = rw (left_at i [] m at) refl
 
 -- ---- the root
 
@@ -154,11 +153,10 @@ module _ (chart : Chart) where
     pub transitions_is : transitions drawn ≡ Ok (chart.transitions, behind)
     pub none_left : lexemes behind ≡ []
     pub made : made_of behind ≡ in_the_end before
-    pub is : text.contents i ≡ Ok ((chart.name, chart.transitions), behind)
 
   contents_step : IsAccepted chart → is_short chart ≡ true → IsInOrder chart → (i : Input) (m : Made) → At i (lexemes_of (chart_spans chart)) m
       → ((j : Input) → made_of j ≡ m → made_of j ≡ start j) → m.states ≡ [] → Parsed i
-  unfolding text.contents states.root
+  unfolding states.root
   contents_step accepted short order i m at fresh empty =
       let named = is_named_of chart accepted in
       let o = orders chart accepted in
@@ -184,7 +182,6 @@ module _ (chart : Chart) where
       let all_made : up_to chart accepted o.states units base count ≡ in_the_end c.behind =
       ap (λ (xs : List State). record base { states = xs; names = names_before_states chart ++ declared_from (λ y. y.name) state_of 0 xs }) all in
       let g = transitions_step chart named (in_the_end c.behind) (names_are_declared chart accepted) chart.transitions e.behind (all_fit chart accepted short) (remade e.behind end _ (in_the_end c.behind) all_made e.at) in
-      let last = left_at g.behind [] (in_the_end c.behind) g.at in
       let root_ahead = piece_at d.behind rest base d.at ∙ next_root in
       record {
         before = c.behind;
@@ -199,7 +196,6 @@ module _ (chart : Chart) where
         transitions_is = g.is;
         none_left = g.at.left;
         made = g.at.made;
-        is = rw a.is (rw b.is (rw c.is (rw d.is (rw root_ahead (rw e.is (rw g.is (rw last refl)))))));
       }
 
   -- the chart of all that was read
@@ -229,24 +225,3 @@ parsed chart accepted held text tokens same =
     let begins = start_of text tokens in
     contents_step chart accepted (short_of chart accepted held) (states_are_in_order chart accepted) begins (made_of begins) (record { left = start_left text tokens ∙ same; made = refl })
     (fresh_start text tokens) (no_states_yet text tokens)
-
-pub chart_is_read_back : ChartIsReadBack
-unfolding text.chart_of
-chart_is_read_back chart accepted held few =
-    let cut = chart_is_cut chart accepted (short_of chart accepted held) few in
-    let p = parsed chart accepted held (chart_text chart) cut.0 cut.2 in
-    rw cut.1 (rw p.is (ap Ok (chart_is_whole chart accepted p.before p.behind p.made)))
-
--- ---- short texts
-
-few_lexemes : (spans : List Span) (rest : List ℕ) → AreApart spans rest → length (lexemes_of spans) ≤ length (written spans)
-few_lexemes [] rest apart = omega arith
-few_lexemes (Span.gap bytes ∷ spans) rest apart = omega (arith, length-append bytes (written spans), few_lexemes spans rest apart.1)
-few_lexemes (Span.token kind [] ∷ spans) rest apart = absurd apart.0
-few_lexemes (Span.token kind (b ∷ bs) ∷ spans) rest apart = omega (arith, length-append (b ∷ bs) (written spans), few_lexemes spans rest apart.2)
-
-pub short_text_is_read_back : ShortTextIsReadBack
-short_text_is_read_back chart accepted held few =
-    let fits = chart_fits chart accepted (short_of chart accepted held) in
-    let size = ap length fits.says in
-    chart_is_read_back chart accepted held (omega (arith, few, size, few_lexemes (chart_spans chart) [] (fits.apart [] tt)))

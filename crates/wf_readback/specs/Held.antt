@@ -2,6 +2,8 @@
 use Rattle.std.specs.Prelude.{Bool, true, ◌&&◌, nat_le, length}
 use Rattle.std.specs.List.{list_all}
 use Rattle.wf_model.specs.Limits.{max_text}
+use Rattle.wf_model.specs.declared.value.Val.{Val}
+use Rattle.wf_model.specs.declared.value.Val.TheVariants as v
 use Rattle.wf_model.specs.declared.expr.Expr.{Expr, end_of-Expr, more_of-Expr}
 use Rattle.wf_model.specs.declared.expr.Expr.TheVariants as e
 use Rattle.wf_model.specs.declared.chart.Action.{Action}
@@ -9,8 +11,14 @@ use Rattle.wf_model.specs.declared.chart.Action.TheVariants as act
 use Rattle.wf_model.specs.declared.chart.Transition.{Transition}
 use Rattle.wf_model.specs.declared.chart.Chart.{Chart}
 use Rattle.wf_model.specs.Txt.{is_text}
+use Rattle.wf_model.specs.Values.{fits_i64}
 use Rattle.wf_model.specs.Accepted.{all_of}
-use Rattle.wf_canon.specs.Charts.{is_short_value}
+
+-- a first value fits: an Int is one of 64 bits, a Text one of at most max_text text characters
+abbrev pub is_short_value : Val → Bool
+is_short_value (v.Bool b) = true
+is_short_value (v.Int z) = fits_i64 z
+is_short_value (v.Text t) = is_text t && nat_le (length t) max_text
 
 -- each Text is one of at most max_text text characters
 abbrev pub has_short_texts : Expr → Bool

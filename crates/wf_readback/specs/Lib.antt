@@ -1,5 +1,4 @@
-pub mod Declares
-pub mod Order
-pub mod Held
+pub mod Cuts
 pub mod Texts
+pub mod Held
 pub mod Laws

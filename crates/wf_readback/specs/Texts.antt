@@ -4,7 +4,7 @@ use Rattle.wf_model.specs.declared.chart.Chart.{Chart}
 use Rattle.wf_lex.specs.declared.token.Token.{Token}
 use Rattle.wf_grammar.specs.Lexemes.{lexeme_of}
 use Rattle.wf_grammar.specs.Charts.{IsChart}
-use Rattle.wf_canon.specs.Cuts.{IsCut}
+use Rattle.wf_readback.specs.Cuts.{IsCut}
 
 -- the text is cut into tokens that are a text of this chart by the grammar
 abbrev pub IsTextOf : List ℕ → Chart → Type 0

@@ -1,10 +1,10 @@
 //! The laws of the canonical text for each accepted chart that a program holds.
-ghost use Rattle.std.specs.Prelude.{◌≤◌, length};
+ghost use Rattle.std.specs.Prelude.{◌≤◌, List, length};
 ghost use Rattle.wf_model.specs.Limits.{max_tokens};
 ghost use Rattle.wf_print.specs.ChartText.{chart_text};
 ghost use Rattle.wf_text.specs.Text.{Means};
-ghost use Rattle.wf_canon.specs.Spans.{lexemes_of};
-ghost use Rattle.wf_canon.specs.Charts.{chart_spans};
+ghost use Rattle.wf_lex.specs.declared.token.Token.{Token};
+ghost use Rattle.wf_readback.specs.Cuts.{IsCut};
 ghost use Rattle.wf_readback.specs.Texts.{IsTextOf};
 
 use crate::held::chart_is_held;
@@ -21,7 +21,10 @@ pub fn checked_is_spelled(checked: &Checked)
 /// The canonical text of the chart means this chart, if it has at most as many tokens, or as many bytes, as a text may have tokens.
 /// Linear in the chart, and takes no memory.
 pub fn checked_is_read_back(checked: &Checked)
-    ensures few_tokens { length (lexemes_of (chart_spans checked.now)) ≤ max_tokens → Means (chart_text checked.now) checked.now }
+    ensures few_tokens {
+        (tokens : List Token) → IsCut (chart_text checked.now) tokens → length tokens ≤ max_tokens →
+        Means (chart_text checked.now) checked.now
+    }
     ensures few_bytes { length (chart_text checked.now) ≤ max_tokens → Means (chart_text checked.now) checked.now }
 {
     chart_is_held(checked.chart());

@@ -3,8 +3,7 @@
 ghost use Rattle.std.specs.Prelude.{IsTrue};
 ghost use Rattle.std.specs.List.{list_all};
 ghost use Rattle.wf_model.specs.Accepted.{all_of};
-ghost use Rattle.wf_canon.specs.Charts.{is_short_value};
-ghost use Rattle.wf_readback.specs.Held.{has_short_texts, is_held, is_held_action, is_held_transition};
+ghost use Rattle.wf_readback.specs.Held.{has_short_texts, is_held, is_held_action, is_held_transition, is_short_value};
 
 use wf_model::{Action, Chart, Expr, Transition, Val, Variable};
 

@@ -9,7 +9,6 @@ mod laws;
 pub use checked::{checked_is_read_back, checked_is_spelled};
 pub use held::chart_is_held;
 pub use laws::{
-    chart_is_read_back, chart_is_spelled, declarations_are_read, meant_is_text_of,
-    names_are_declared, short_text_is_read_back, states_are_in_order, text_of_few_is_meant,
-    transitions_are_read,
+    chart_is_read_back, chart_is_spelled, cut_is_answered, cuts_are_equal, meant_is_text_of,
+    short_text_is_read_back, text_of_few_is_meant,
 };

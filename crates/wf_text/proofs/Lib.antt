@@ -1,4 +1,2 @@
 pub mod Given
 pub mod LastLine
-pub mod Turns
-pub mod Examples

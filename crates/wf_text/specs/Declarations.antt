@@ -19,8 +19,8 @@ unit = do
   changed (with_unit name)
 
 -- [ at UNIT ]
-unfoldable pub placed : Parser (Option UnitId)
-placed = do
+unfoldable pub unit_if_any : Parser (Option UnitId)
+unit_if_any = do
   found ← eat pieces.At
   if found then (do u ← input.unit; pure (Some u)) else pure None
 
@@ -30,7 +30,7 @@ event = do
   expect pieces.Event
   id ← here next_event
   name ← new_name (declared_as_a.Event id)
-  unit ← placed
+  unit ← unit_if_any
   expect pieces.Semicolon
   changed (with_event (record { name = name; unit = unit }))
 
@@ -59,8 +59,8 @@ unfoldable pub outputs : Parser (List VarId)
 outputs = input.variable >>= λ x i. outputs_from (length i.left) (x ∷ []) i
 
 -- [ gives VAR { , VAR } ]
-unfoldable pub given : Parser (List VarId)
-given = do
+unfoldable pub outputs_if_any : Parser (List VarId)
+outputs_if_any = do
   found ← eat pieces.Gives
   if found then outputs else pure []
 
@@ -72,7 +72,7 @@ activity = do
   name ← new_name (declared_as_a.Activity id)
   expect pieces.At
   unit ← input.unit
-  outputs ← given
+  outputs ← outputs_if_any
   expect pieces.Semicolon
   changed (with_act (record { name = name; unit = unit; outputs = outputs }))
 

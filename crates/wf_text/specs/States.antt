@@ -25,8 +25,8 @@ unfoldable pub kind : Parser Kind
 kind = λ i. kind_by (kind_of (piece i)) i
 
 -- ( basic | or | and ) NAME at UNIT: the state with this parent
-unfoldable pub placed : Option StateId → Parser StateId
-placed parent = do
+unfoldable pub head : Option StateId → Parser StateId
+head parent = do
   k ← kind
   id ← here next_state
   name ← new_name (declared_as_a.State id)
@@ -53,18 +53,18 @@ body_by nested _ = syntax
 -- ( basic | or | and ) NAME at UNIT ( ; | "{" .. ), where the parameter reads from the brace on
 unfoldable pub state_with : (StateId → Parser (Unit {0})) → Option StateId → Parser (Unit {0})
 state_with nested parent = do
-  id ← placed parent
+  id ← head parent
   ahead ← peek
   body_by (nested id) ahead
 
 -- "{" { state } "}": this brace and those under it are at most so many
-unfoldable pub opened : ℕ → StateId → Parser (Unit {0})
-opened zero id = oversize
-opened (suc depth) id = take >> children (state_with (opened depth) (Some id))
+unfoldable pub block : ℕ → StateId → Parser (Unit {0})
+block zero id = oversize
+block (suc depth) id = take >> children (state_with (block depth) (Some id))
 
 -- a state, under which so many braces may open
 abbrev pub state : ℕ → Option StateId → Parser (Unit {0})
-state depth parent = state_with (opened depth) parent
+state depth parent = state_with (block depth) parent
 
 abbrev pub root_by : Option Kind → Parser (Unit {0})
 root_by (Some k) = state max_open None

@@ -1,5 +1,5 @@
 -- chart = chart NAME ; { decl } [ state ] { trans }
-use Rattle.std.specs.Prelude.{◌≡◌, ◌≢◌, ℕ, if◌then◌else◌, nat_lt, List, [], length, Result, Ok, Err}
+use Rattle.std.specs.Prelude.{◌≡◌, ℕ, if◌then◌else◌, nat_lt, List, [], length, Result, Ok, Err}
 use Rattle.wf_model.specs.declared.chart.Chart.{Chart}
 use Rattle.wf_model.specs.declared.chart.Transition.{Transition}
 use Rattle.wf_lex.specs.declared.token.Token.{Token}
@@ -16,8 +16,8 @@ use Rattle.wf_text.specs.States.{root}
 use Rattle.wf_text.specs.Transitions.{transitions}
 
 -- no token is left
-abbrev pub finished : Parser (Unit {0})
-finished = λ i. if nat_lt 0 (length i.left) then syntax i else pure tt i
+abbrev pub text_end : Parser (Unit {0})
+text_end = λ i. if nat_lt 0 (length i.left) then syntax i else pure tt i
 
 -- chart NAME ; { decl } [ state ] { trans }: the name and the transitions
 unfoldable pub contents : Parser (List ℕ × List Transition)
@@ -28,7 +28,7 @@ contents = do
   declarations
   root
   found ← transitions
-  finished
+  text_end
   pure (chart_name, found)
 
 -- the chart of all that was read
@@ -52,8 +52,3 @@ chart_of text = chart_from text (tokens_of text)
 -- the text means the chart
 abbrev pub Means : List ℕ → Chart → Type 0
 Means text chart = chart_of text ≡ Ok chart
-
--- what a function that reads answers beside what it is to answer: want of memory, which is this fault, is free
-abbrev pub Gives : {A E : Type 0} → E → Result A E → Result A E → Type 0
-Gives no_memory (Ok a) wanted = wanted ≡ Ok a
-Gives no_memory (Err e) wanted = e ≢ no_memory → wanted ≡ Err e

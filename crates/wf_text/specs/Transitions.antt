@@ -12,43 +12,43 @@ use Rattle.wf_cursor.specs.Input.{Parser, ◌>>=◌, ◌>>◌, pure, peek, take,
 use Rattle.wf_phrase.specs.Expressions.{expr}
 
 -- [ on EVENT ]
-unfoldable pub caused : Parser (Option EventId)
-caused = do
+unfoldable pub event_if_any : Parser (Option EventId)
+event_if_any = do
   found ← eat pieces.On
   if found then (do e ← input.event; pure (Some e)) else pure None
 
 -- [ if expr ]
-unfoldable pub guarded : Parser (Option Expr)
-guarded = do
+unfoldable pub guard_if_any : Parser (Option Expr)
+guard_if_any = do
   found ← eat pieces.If
   if found then (do guard ← expr; pure (Some guard)) else pure None
 
 -- VAR := expr
-unfoldable pub assigned : Parser Action
-assigned = do
+unfoldable pub assignment : Parser Action
+assignment = do
   x ← input.variable
   expect pieces.Assign
   value ← expr
   pure (act.Assign x value)
 
 -- raise EVENT
-unfoldable pub raised : Parser Action
-raised = do
+unfoldable pub raise_action : Parser Action
+raise_action = do
   take
   e ← input.event
   pure (act.Raise e)
 
 -- start ACTIVITY
-unfoldable pub started : Parser Action
-started = do
+unfoldable pub start_action : Parser Action
+start_action = do
   take
   a ← input.activity
   pure (act.Start a)
 
 abbrev pub action_by : Option Piece → Parser Action
-action_by (Some pieces.Name) = assigned
-action_by (Some pieces.Raise) = raised
-action_by (Some pieces.Start) = started
+action_by (Some pieces.Name) = assignment
+action_by (Some pieces.Raise) = raise_action
+action_by (Some pieces.Start) = start_action
 action_by _ = syntax
 
 -- action = VAR := expr | raise EVENT | start ACTIVITY
@@ -79,8 +79,8 @@ transition = do
   source ← input.state
   expect pieces.To
   target ← input.state
-  event ← caused
-  guard ← guarded
+  event ← event_if_any
+  guard ← guard_if_any
   actions ← effects
   expect pieces.Semicolon
   pure (record { source = source; target = target; event = event; guard = guard; actions = actions })

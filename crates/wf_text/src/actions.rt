@@ -1,6 +1,6 @@
 //! Actions of transitions.
 ghost use Rattle.std.specs.Prelude.{length};
-ghost use Rattle.wf_cursor.specs.Input.{Reads};
+ghost use Rattle.wf_cursor.specs.Input.{Reads, ReadsExactly};
 ghost use Rattle.wf_text.specs.Transitions as spec;
 
 use std::alloc::Global;
@@ -8,9 +8,9 @@ use wf_cursor::{Cursor, Piece, TextFault};
 use wf_model::{Action, List};
 use wf_phrase::expr;
 
-#[tactic(auto, unfolding(crate::specs::Transitions::assigned))]
-fn assigned(alloc: Global, cursor: &mut Cursor<'_>) -> Result<Action, TextFault>
-    ensures { Reads (spec.assigned cursor.old) result cursor.new }
+#[tactic(auto, unfolding(crate::specs::Transitions::assignment))]
+fn assignment(alloc: Global, cursor: &mut Cursor<'_>) -> Result<Action, TextFault>
+    ensures { Reads (spec.assignment cursor.old) result cursor.new }
 {
     let x = cursor.variable()?;
     cursor.expect(Piece::Assign)?;
@@ -18,18 +18,18 @@ fn assigned(alloc: Global, cursor: &mut Cursor<'_>) -> Result<Action, TextFault>
     Ok(Action::Assign(x, value))
 }
 
-#[tactic(auto, unfolding(crate::specs::Transitions::raised))]
-fn raised(cursor: &mut Cursor<'_>) -> Result<Action, TextFault>
-    ensures { Reads (spec.raised cursor.old) result cursor.new }
+#[tactic(auto, unfolding(crate::specs::Transitions::raise_action))]
+fn raise_action(cursor: &mut Cursor<'_>) -> Result<Action, TextFault>
+    ensures { ReadsExactly (spec.raise_action cursor.old) result cursor.new }
 {
     cursor.take();
     let event = cursor.event()?;
     Ok(Action::Raise(event))
 }
 
-#[tactic(auto, unfolding(crate::specs::Transitions::started))]
-fn started(cursor: &mut Cursor<'_>) -> Result<Action, TextFault>
-    ensures { Reads (spec.started cursor.old) result cursor.new }
+#[tactic(auto, unfolding(crate::specs::Transitions::start_action))]
+fn start_action(cursor: &mut Cursor<'_>) -> Result<Action, TextFault>
+    ensures { ReadsExactly (spec.start_action cursor.old) result cursor.new }
 {
     cursor.take();
     let act = cursor.activity()?;
@@ -41,9 +41,9 @@ fn action(alloc: Global, cursor: &mut Cursor<'_>) -> Result<Action, TextFault>
     ensures { Reads (spec.action cursor.old) result cursor.new }
 {
     match cursor.peek() {
-        Some(Piece::Name) => assigned(alloc, cursor),
-        Some(Piece::Raise) => raised(cursor),
-        Some(Piece::Start) => started(cursor),
+        Some(Piece::Name) => assignment(alloc, cursor),
+        Some(Piece::Raise) => raise_action(cursor),
+        Some(Piece::Start) => start_action(cursor),
         _ => Err(cursor.syntax()),
     }
 }

@@ -4,32 +4,25 @@ ghost use Rattle.wf_model.specs.Limits.{max_input};
 ghost use Rattle.wf_text.specs.ChartFaults as spec;
 
 use crate::places::{Place, place_of};
-use thiserror::Error;
 use wf_cursor::TextFault;
 use wf_lex::Token;
 
 /// Why a text means no chart, with the line and the column where that shows. Both count bytes from 1.
-#[derive(Clone, Copy, Debug, PartialEq, Eq, Error)]
+#[derive(Clone, Copy)]
 pub enum ChartFault {
     /// No token starts with this byte.
-    #[error("bad byte at line {line}, column {col}")]
     BadByte { line: u32, col: u32 },
     /// The first token above the limit starts here.
-    #[error("too many tokens at line {line}, column {col}")]
     TooManyTokens { line: u32, col: u32 },
     /// No rule goes on with the token here.
-    #[error("syntax at line {line}, column {col}")]
     Syntax { line: u32, col: u32 },
     /// The name here isn't declared as what is wanted.
-    #[error("unknown name at line {line}, column {col}")]
     UnknownName { line: u32, col: u32 },
     /// The name here was declared before.
-    #[error("double name at line {line}, column {col}")]
     DoubleName { line: u32, col: u32 },
     /// What stands here is too large.
-    #[error("oversize at line {line}, column {col}")]
     Oversize { line: u32, col: u32 },
-    #[error("out of memory")]
+    /// Memory ran out.
     NoMemory,
 }
 

@@ -1,6 +1,6 @@
 //! Declarations.
 ghost use Rattle.std.specs.Prelude.{length};
-ghost use Rattle.wf_cursor.specs.Input.{Reads};
+ghost use Rattle.wf_cursor.specs.Input.{Reads, ReadsExactly};
 ghost use Rattle.wf_text.specs.Declarations as spec;
 
 use std::alloc::Global;
@@ -20,9 +20,9 @@ fn unit(alloc: Global, cursor: &mut Cursor<'_>) -> Result<(), TextFault>
     Ok(())
 }
 
-#[tactic(auto, unfolding(crate::specs::Declarations::placed))]
-fn placed(cursor: &mut Cursor<'_>) -> Result<Option<UnitId>, TextFault>
-    ensures { Reads (spec.placed cursor.old) result cursor.new }
+#[tactic(auto, unfolding(crate::specs::Declarations::unit_if_any))]
+fn unit_if_any(cursor: &mut Cursor<'_>) -> Result<Option<UnitId>, TextFault>
+    ensures { ReadsExactly (spec.unit_if_any cursor.old) result cursor.new }
 {
     if cursor.eat(Piece::At) {
         Ok(Some(cursor.unit()?))
@@ -38,7 +38,7 @@ fn event(alloc: Global, cursor: &mut Cursor<'_>) -> Result<(), TextFault>
     cursor.expect(Piece::Event)?;
     let what = Declared::Event(cursor.next_event());
     let name = cursor.new_name(alloc, what)?;
-    let unit = placed(cursor)?;
+    let unit = unit_if_any(cursor)?;
     cursor.expect(Piece::Semicolon)?;
     cursor.add_event(Event { name, unit })?;
     Ok(())
@@ -77,9 +77,9 @@ fn outputs(alloc: Global, cursor: &mut Cursor<'_>) -> Result<List<VarId>, TextFa
     Ok(found)
 }
 
-#[tactic(auto, unfolding(crate::specs::Declarations::given))]
-fn given(alloc: Global, cursor: &mut Cursor<'_>) -> Result<List<VarId>, TextFault>
-    ensures { Reads (spec.given cursor.old) result cursor.new }
+#[tactic(auto, unfolding(crate::specs::Declarations::outputs_if_any))]
+fn outputs_if_any(alloc: Global, cursor: &mut Cursor<'_>) -> Result<List<VarId>, TextFault>
+    ensures { Reads (spec.outputs_if_any cursor.old) result cursor.new }
 {
     if cursor.eat(Piece::Gives) {
         outputs(alloc, cursor)
@@ -97,7 +97,7 @@ fn activity(alloc: Global, cursor: &mut Cursor<'_>) -> Result<(), TextFault>
     let name = cursor.new_name(alloc, what)?;
     cursor.expect(Piece::At)?;
     let unit = cursor.unit()?;
-    let outputs = given(alloc, cursor)?;
+    let outputs = outputs_if_any(alloc, cursor)?;
     cursor.expect(Piece::Semicolon)?;
     cursor.add_act(Activity {
         name,

@@ -4,7 +4,7 @@ ghost use Rattle.wf_model.specs.Limits.{max_input};
 ghost use Rattle.wf_text.specs.Places as spec;
 
 /// A line and a column in it. Both count bytes from 1.
-#[derive(Clone, Copy, Debug, PartialEq, Eq)]
+#[derive(Clone, Copy)]
 pub struct Place {
     pub line: u32,
     pub col: u32,

@@ -1,6 +1,6 @@
 //! States.
 ghost use Rattle.std.specs.Prelude.{◌≡◌, Some, length};
-ghost use Rattle.wf_cursor.specs.Input.{Reads, piece};
+ghost use Rattle.wf_cursor.specs.Input.{Reads, ReadsExactly, piece};
 ghost use Rattle.wf_text.specs.States as spec;
 
 use std::alloc::Global;
@@ -21,7 +21,7 @@ fn kind_of(piece: Option<Piece>) -> Option<Kind>
 
 #[tactic(auto, unfolding(crate::specs::States::kind))]
 fn kind(cursor: &mut Cursor<'_>) -> Result<Kind, TextFault>
-    ensures { Reads (spec.kind cursor.old) result cursor.new }
+    ensures { ReadsExactly (spec.kind cursor.old) result cursor.new }
 {
     match kind_of(cursor.peek()) {
         Some(kind) => {
@@ -33,13 +33,13 @@ fn kind(cursor: &mut Cursor<'_>) -> Result<Kind, TextFault>
 }
 
 /// A state up to its unit.
-#[tactic(auto, unfolding(crate::specs::States::placed))]
-fn placed(
+#[tactic(auto, unfolding(crate::specs::States::head))]
+fn head(
     alloc: Global,
     cursor: &mut Cursor<'_>,
     parent: Option<StateId>,
 ) -> Result<StateId, TextFault>
-    ensures { Reads (spec.placed parent cursor.old) result cursor.new }
+    ensures { Reads (spec.head parent cursor.old) result cursor.new }
 {
     let kind = kind(cursor)?;
     let id = cursor.next_state();
@@ -66,26 +66,26 @@ fn state(
 ) -> Result<(), TextFault>
     ensures { Reads (spec.state depth parent cursor.old) result cursor.new }
 {
-    let id = placed(alloc, cursor, parent)?;
+    let id = head(alloc, cursor, parent)?;
     match cursor.peek() {
         Some(Piece::Semicolon) => {
             cursor.take();
             Ok(())
         }
-        Some(Piece::OpenBrace) => opened(alloc, cursor, id, depth),
+        Some(Piece::OpenBrace) => block(alloc, cursor, id, depth),
         _ => Err(cursor.syntax()),
     }
 }
 
 /// The children of a state from the opening brace on, where this one and those under it may be so many.
 #[cycle(nested)]
-fn opened(
+fn block(
     alloc: Global,
     cursor: &mut Cursor<'_>,
     parent: StateId,
     depth: usize,
 ) -> Result<(), TextFault>
-    ensures { Reads (spec.opened depth parent cursor.old) result cursor.new }
+    ensures { Reads (spec.block depth parent cursor.old) result cursor.new }
 {
     if depth == 0 {
         return Err(cursor.oversize());
@@ -105,8 +105,7 @@ fn children(
     ensures { Reads (spec.children (spec.state depth (Some parent)) cursor.old) result cursor.new }
 {
     for _turn in 0..cursor.left() {
-        let closed = cursor.eat(Piece::CloseBrace);
-        if closed {
+        if cursor.eat(Piece::CloseBrace) {
             return Ok(());
         }
         state(alloc, cursor, Some(parent), depth)?;

@@ -1,6 +1,6 @@
 //! Transitions.
 ghost use Rattle.std.specs.Prelude.{length};
-ghost use Rattle.wf_cursor.specs.Input.{Reads};
+ghost use Rattle.wf_cursor.specs.Input.{Reads, ReadsExactly};
 ghost use Rattle.wf_text.specs.Transitions as spec;
 
 use crate::actions::effects;
@@ -9,9 +9,9 @@ use wf_cursor::{Cursor, Piece, TextFault};
 use wf_model::{EventId, Expr, List, Transition};
 use wf_phrase::expr;
 
-#[tactic(auto, unfolding(crate::specs::Transitions::caused))]
-fn caused(cursor: &mut Cursor<'_>) -> Result<Option<EventId>, TextFault>
-    ensures { Reads (spec.caused cursor.old) result cursor.new }
+#[tactic(auto, unfolding(crate::specs::Transitions::event_if_any))]
+fn event_if_any(cursor: &mut Cursor<'_>) -> Result<Option<EventId>, TextFault>
+    ensures { ReadsExactly (spec.event_if_any cursor.old) result cursor.new }
 {
     if cursor.eat(Piece::On) {
         Ok(Some(cursor.event()?))
@@ -20,9 +20,9 @@ fn caused(cursor: &mut Cursor<'_>) -> Result<Option<EventId>, TextFault>
     }
 }
 
-#[tactic(auto, unfolding(crate::specs::Transitions::guarded))]
-fn guarded(alloc: Global, cursor: &mut Cursor<'_>) -> Result<Option<Expr>, TextFault>
-    ensures { Reads (spec.guarded cursor.old) result cursor.new }
+#[tactic(auto, unfolding(crate::specs::Transitions::guard_if_any))]
+fn guard_if_any(alloc: Global, cursor: &mut Cursor<'_>) -> Result<Option<Expr>, TextFault>
+    ensures { Reads (spec.guard_if_any cursor.old) result cursor.new }
 {
     if cursor.eat(Piece::If) {
         Ok(Some(expr(alloc, cursor)?))
@@ -39,8 +39,8 @@ fn transition(alloc: Global, cursor: &mut Cursor<'_>) -> Result<Transition, Text
     let source = cursor.state()?;
     cursor.expect(Piece::To)?;
     let target = cursor.state()?;
-    let event = caused(cursor)?;
-    let guard = guarded(alloc, cursor)?;
+    let event = event_if_any(cursor)?;
+    let guard = guard_if_any(alloc, cursor)?;
     let actions = effects(alloc, cursor)?;
     cursor.expect(Piece::Semicolon)?;
     Ok(Transition {

@@ -132,9 +132,9 @@ at_begins : Begins (Is pieces.At) AtUnit
 at_begins = begins_with pieces.At (One pieces.Name)
 
 -- [ at UNIT ]
-placed_fits : (i : Input) → Fits i (Maybe AtUnit) (IsNot pieces.At) (reader.placed i)
-unfolding reader.placed
-placed_fits i = eat_fits i pieces.At (Maybe AtUnit) (IsNot pieces.At) (λ found. if found then (input.unit >>= (λ u. pure (Some u))) else pure None)
+unit_if_any_fits : (i : Input) → Fits i (Maybe AtUnit) (IsNot pieces.At) (reader.unit_if_any i)
+unfolding reader.unit_if_any
+unit_if_any_fits i = eat_fits i pieces.At (Maybe AtUnit) (IsNot pieces.At) (λ found. if found then (input.unit >>= (λ u. pure (Some u))) else pure None)
     (λ h. maybe_some (Is pieces.At) (IsNot pieces.At) AtUnit at_begins (is_apart pieces.At) i ((input.unit >>= (λ u. pure (Some u))) (next i)) h
     (next_then i pieces.At (One pieces.Name) (IsNot pieces.At) ((input.unit >>= (λ u. pure (Some u))) (next i)) h
     (follows_less (next i) (One pieces.Name) Anything (IsNot pieces.At) ((input.unit >>= (λ u. pure (Some u))) (next i)) (λ q a. tt)
@@ -183,9 +183,9 @@ gives_apart : (q : Option Piece) → Is pieces.Gives q → EndsOutputs q → ⊥
 gives_apart q h ends = ends.1 h
 
 -- [ gives VAR { , VAR } ]
-given_fits : (i : Input) → Fits i (Maybe GivesNames) EndsOutputs (reader.given i)
-unfolding reader.given
-given_fits i = eat_fits i pieces.Gives (Maybe GivesNames) EndsOutputs (λ found. if found then outputs else pure [])
+outputs_if_any_fits : (i : Input) → Fits i (Maybe GivesNames) EndsOutputs (reader.outputs_if_any i)
+unfolding reader.outputs_if_any
+outputs_if_any_fits i = eat_fits i pieces.Gives (Maybe GivesNames) EndsOutputs (λ found. if found then outputs else pure [])
     (λ h. maybe_some (Is pieces.Gives) EndsOutputs GivesNames gives_begins gives_apart i (outputs (next i)) h
     (next_then i pieces.Gives Names EndsOutputs (outputs (next i)) h
     (follows_less (next i) Names (IsNot pieces.Comma) EndsOutputs (outputs (next i)) (λ q a. a.0) (outputs_fits (next i)))))
@@ -218,7 +218,7 @@ event_declared i =
     one_then i pieces.Event (One pieces.Name · Maybe AtUnit · One pieces.Semicolon) Anything (expect pieces.Event i) _
     (some_then (One pieces.Name) (Maybe AtUnit · One pieces.Semicolon) (some_one pieces.Name) placed_and_ends) (expect_fits i pieces.Event)
     (λ x j. one_then j pieces.Name (Maybe AtUnit · One pieces.Semicolon) Anything (new_name (declared_as_a.Event (next_event j)) j) _ placed_and_ends (new_name_fits j (declared_as_a.Event (next_event j)))
-    (λ name k. then_fits k (Maybe AtUnit) (One pieces.Semicolon) (IsNot pieces.At) Anything (reader.placed k) _ (semicolon_joins (IsNot pieces.At) (λ h. cc)) ends_semicolon (placed_fits k)
+    (λ name k. then_fits k (Maybe AtUnit) (One pieces.Semicolon) (IsNot pieces.At) Anything (reader.unit_if_any k) _ (semicolon_joins (IsNot pieces.At) (λ h. cc)) ends_semicolon (unit_if_any_fits k)
     (λ u m got. then_keeps m (One pieces.Semicolon) Anything (expect pieces.Semicolon m) _ (expect_fits m pieces.Semicolon) (λ y n. (refl, refl)))))
   where
     placed_and_ends : Productive (Maybe AtUnit · One pieces.Semicolon)
@@ -275,7 +275,7 @@ activity_declared i =
     (new_name_fits j (declared_as_a.Activity (next_act j)))
     (λ name k. one_then k pieces.At (One pieces.Name · Maybe GivesNames · One pieces.Semicolon) Anything (expect pieces.At k) _ unit_and_ends (expect_fits k pieces.At)
     (λ y m. one_then m pieces.Name (Maybe GivesNames · One pieces.Semicolon) Anything (input.unit m) _ gives_and_ends (unit_fits m)
-    (λ u n. then_fits n (Maybe GivesNames) (One pieces.Semicolon) EndsOutputs Anything (reader.given n) _ (semicolon_joins EndsOutputs ((λ h. cc), (λ h. cc))) ends_semicolon (given_fits n)
+    (λ u n. then_fits n (Maybe GivesNames) (One pieces.Semicolon) EndsOutputs Anything (reader.outputs_if_any n) _ (semicolon_joins EndsOutputs ((λ h. cc), (λ h. cc))) ends_semicolon (outputs_if_any_fits n)
     (λ found l got. then_keeps l (One pieces.Semicolon) Anything (expect pieces.Semicolon l) _ (expect_fits l pieces.Semicolon) (λ a b. (refl, refl)))))))
 
 -- ---- any number of declarations

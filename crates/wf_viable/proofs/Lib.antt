@@ -9,3 +9,4 @@ pub mod Transitions
 pub mod States
 pub mod Whole
 pub mod Places
+pub mod Memory

@@ -23,7 +23,7 @@ use Rattle.wf_text.specs.ChartFaults.{token_place, placed_fault}
 use Rattle.wf_text.specs.Declarations.{declarations}
 use Rattle.wf_text.specs.States.{root}
 use Rattle.wf_text.specs.Transitions.{transitions}
-use Rattle.wf_text.specs.Text.{finished, contents, whole, with_place, chart_from, chart_of}
+use Rattle.wf_text.specs.Text.{text_end, contents, whole, with_place, chart_from, chart_of}
 use Rattle.wf_grammar.specs.Lexemes.{lexeme_of}
 use Rattle.wf_grammar.proofs.ChartSpelled.{chart_spelled}
 use Rattle.wf_viable.specs.Shapes.{first}
@@ -122,8 +122,8 @@ then_all P (Err e) f all = tt
 abbrev NoneLeft : Input → Type 0
 NoneLeft j = pieces_left j ≡ []
 
-finished_all : (i : Input) → AllOk NoneLeft (finished i)
-finished_all i = by_test (nat_lt 0 (length i.left)) refl
+text_end_all : (i : Input) → AllOk NoneLeft (text_end i)
+text_end_all i = by_test (nat_lt 0 (length i.left)) refl
   where
     by_left : (left : List Token) → nat_lt 0 (length left) ≡ false → map (λ t. (lexeme_of i.text t).piece) left ≡ []
     by_left [] h = refl
@@ -137,7 +137,7 @@ contents_all : (i : Input) → AllOk NoneLeft (contents i)
 unfolding contents
 contents_all i =
     then_all NoneLeft (expect pieces.Chart i) _ (λ a j. then_all NoneLeft (input.name j) _ (λ name k. then_all NoneLeft (expect pieces.Semicolon k) _ (λ b l. then_all NoneLeft (declarations l) _ (λ c m.
-    then_all NoneLeft (root m) _ (λ d n. then_all NoneLeft (transitions n) _ (λ found o. last o (finished o) (name, found) (finished_all o)))))))
+    then_all NoneLeft (root m) _ (λ d n. then_all NoneLeft (transitions n) _ (λ found o. last o (text_end o) (name, found) (text_end_all o)))))))
   where
     last : {A : Type 0} (o : Input) (r : Outcome (Unit {0})) (a : A) → AllOk NoneLeft r → AllOk NoneLeft (and_then r (λ _. pure a))
     last o (Ok q) a all = all

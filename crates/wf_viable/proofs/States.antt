@@ -11,7 +11,7 @@ use Rattle.wf_cursor.specs.declared.piece.Piece.TheVariants as pieces
 use Rattle.wf_cursor.specs.Input as input
 use Rattle.wf_cursor.specs.Input.{Input, Outcome, Parser, and_then, ◌>>=◌, ◌>>◌, pure, peek, take, syntax, oversize, piece, next, eat, expect, new_name, here, changed, next_state, with_state}
 use Rattle.wf_text.specs.States as reader
-use Rattle.wf_text.specs.States.{kind, kind_by, kind_of, children_from, children, body_by, state_with, opened, root, root_by}
+use Rattle.wf_text.specs.States.{kind, kind_by, kind_of, children_from, children, body_by, state_with, block, root, root_by}
 use Rattle.wf_grammar.specs.Lexemes.{lexeme_of}
 use Rattle.wf_grammar.specs.Drawing.{Part}
 use Rattle.wf_grammar.proofs.Reading.{Follow}
@@ -72,8 +72,8 @@ some_name_at = some_then (One pieces.Name) AtUnit (some_one pieces.Name) some_at
 some_head : Productive Head
 some_head = some_then Kind NameAtUnit some_kind some_name_at
 
-head_fits : (i : Input) (parent : Option StateId) → Fits i Head Anything (reader.placed parent i)
-unfolding reader.placed with_state
+head_fits : (i : Input) (parent : Option StateId) → Fits i Head Anything (reader.head parent i)
+unfolding reader.head with_state
 head_fits i parent =
     then_fits i Kind NameAtUnit Anything Anything (kind i) _ (any_joins NameAtUnit Anything) some_name_at (kind_fits i)
     (λ k j got. one_then j pieces.Name AtUnit Anything (new_name (declared_as_a.State (next_state j)) j) _ some_at (new_name_fits j (declared_as_a.State (next_state j)))
@@ -171,7 +171,7 @@ state_with_fits : (nested : StateId → Parser (Unit {0})) → NestedFits nested
 unfolding state_with
 state_with_fits nested nested_fits i parent =
     recast_all i (Head · Body) State Anything (state_with nested parent i) state_wider state_narrower
-    (then_fits i Head Body Anything Anything (reader.placed parent i) _ (any_joins Body Anything) some_body (head_fits i parent) (λ id j got. body_fits nested nested_fits j id))
+    (then_fits i Head Body Anything Anything (reader.head parent i) _ (any_joins Body Anything) some_body (head_fits i parent) (λ id j got. body_fits nested nested_fits j id))
 
 -- ---- states up to a closing brace
 
@@ -248,13 +248,13 @@ children_fits : (child : Parser (Unit {0})) → ((k : Input) → Fits k State An
 unfolding children
 children_fits child child_fits i = children_from_fits child child_fits (length i.left) i (let l = length-map i.left (λ t. (lexeme_of i.text t).piece) in omega arith)
 
-opened_fits : (depth : ℕ) → NestedFits (opened depth)
-unfolding opened some_closed
-opened_fits zero i id h =
+block_fits : (depth : ℕ) → NestedFits (block depth)
+unfolding block some_closed
+block_fits zero i id h =
     faults_next i pieces.OpenBrace StatesInBraces (pieces.CloseBrace ∷ []) h (record { front = pieces.OpenBrace ∷ []; back = pieces.CloseBrace ∷ []; whole = refl; is_front = One.one; is_back = some_closed.shaped })
-opened_fits (suc depth) i id h =
-    next_then i pieces.OpenBrace StatesClosed Anything (children (state_with (opened depth) (Some id)) (next i)) h
-    (children_fits (state_with (opened depth) (Some id)) (λ k. state_with_fits (opened depth) (opened_fits depth) k (Some id)) (next i))
+block_fits (suc depth) i id h =
+    next_then i pieces.OpenBrace StatesClosed Anything (children (state_with (block depth) (Some id)) (next i)) h
+    (children_fits (state_with (block depth) (Some id)) (λ k. state_with_fits (block depth) (block_fits depth) k (Some id)) (next i))
 
 -- ---- the root
 
@@ -268,5 +268,5 @@ root_fits i = by_kind (kind_of (piece i)) refl
     by_kind : (k : Option KindOf) → kind_of (piece i) ≡ k → Fits i (Maybe State) EndsRoot (root_by k i)
     by_kind None is = maybe_none StartsState EndsRoot State state_begins root_apart i (Ok (tt {0}, i)) (λ h. h (ap kind_of (sym (piece_first i)) ∙ is)) (refl, refl)
     by_kind (Some k) is =
-        maybe_some StartsState EndsRoot State state_begins root_apart i (state_with (opened max_open) None i) (λ h. (let there = ap kind_of (piece_first i) in cc))
-        (follows_less i State Anything EndsRoot (state_with (opened max_open) None i) (λ q a. tt) (state_with_fits (opened max_open) (opened_fits max_open) i None))
+        maybe_some StartsState EndsRoot State state_begins root_apart i (state_with (block max_open) None i) (λ h. (let there = ap kind_of (piece_first i) in cc))
+        (follows_less i State Anything EndsRoot (state_with (block max_open) None i) (λ q a. tt) (state_with_fits (block max_open) (block_fits max_open) i None))

@@ -12,7 +12,7 @@ use Rattle.wf_cursor.specs.Input as input
 use Rattle.wf_cursor.specs.Input.{Input, Outcome, Parser, and_then, ◌>>=◌, ◌>>◌, pure, peek, take, syntax, piece, next, sees, eat, expect, here}
 use Rattle.wf_phrase.specs.Operators.{or_operator, and_operator, comparison, sum_operator, product_operator}
 use Rattle.wf_phrase.specs.Expressions.{expr}
-use Rattle.wf_text.specs.Transitions.{caused, guarded, assigned, raised, started, action_by, action, actions_from, actions, effects, transition, transitions_from, transitions}
+use Rattle.wf_text.specs.Transitions.{event_if_any, guard_if_any, assignment, raise_action, start_action, action_by, action, actions_from, actions, effects, transition, transitions_from, transitions}
 use Rattle.wf_grammar.specs.Lexemes.{lexeme_of}
 use Rattle.wf_grammar.proofs.Inputs.{sees_piece, piece_sees}
 use Rattle.wf_grammar.proofs.Reading.{Follow}
@@ -47,9 +47,9 @@ expr_ends_at_semicolon = (((((tt, refl), refl), refl), refl), refl)
 abbrev OnEvent : Shape
 OnEvent = One pieces.On · One pieces.Name
 
-caused_fits : (i : Input) → Fits i (Maybe OnEvent) (IsNot pieces.On) (caused i)
-unfolding caused
-caused_fits i = eat_fits i pieces.On (Maybe OnEvent) (IsNot pieces.On) (λ found. if found then (input.event >>= (λ e. pure (Some e))) else pure None)
+event_if_any_fits : (i : Input) → Fits i (Maybe OnEvent) (IsNot pieces.On) (event_if_any i)
+unfolding event_if_any
+event_if_any_fits i = eat_fits i pieces.On (Maybe OnEvent) (IsNot pieces.On) (λ found. if found then (input.event >>= (λ e. pure (Some e))) else pure None)
     (λ h. maybe_some (Is pieces.On) (IsNot pieces.On) OnEvent (begins_with pieces.On (One pieces.Name)) (is_apart pieces.On) i ((input.event >>= (λ e. pure (Some e))) (next i)) h
     (next_then i pieces.On (One pieces.Name) (IsNot pieces.On) ((input.event >>= (λ e. pure (Some e))) (next i)) h
     (follows_less (next i) (One pieces.Name) Anything (IsNot pieces.On) ((input.event >>= (λ e. pure (Some e))) (next i)) (λ q a. tt)
@@ -67,9 +67,9 @@ EndsGuard q = EndsExpr q × IsNot pieces.If q
 guard_apart : (q : Option Piece) → Is pieces.If q → EndsGuard q → ⊥
 guard_apart q h ends = ends.1 h
 
-guarded_fits : (i : Input) → Fits i (Maybe IfExpr) EndsGuard (guarded i)
-unfolding guarded
-guarded_fits i = eat_fits i pieces.If (Maybe IfExpr) EndsGuard (λ found. if found then (expr >>= (λ x. pure (Some x))) else pure None)
+guard_if_any_fits : (i : Input) → Fits i (Maybe IfExpr) EndsGuard (guard_if_any i)
+unfolding guard_if_any
+guard_if_any_fits i = eat_fits i pieces.If (Maybe IfExpr) EndsGuard (λ found. if found then (expr >>= (λ x. pure (Some x))) else pure None)
     (λ h. maybe_some (Is pieces.If) EndsGuard IfExpr (begins_with pieces.If Expr) guard_apart i ((expr >>= (λ x. pure (Some x))) (next i)) h
     (next_then i pieces.If Expr EndsGuard ((expr >>= (λ x. pure (Some x))) (next i)) h
     (follows_less (next i) Expr EndsExpr EndsGuard ((expr >>= (λ x. pure (Some x))) (next i)) (λ q a. a.0)
@@ -120,29 +120,29 @@ some_action = record { pieces = some_assigned.pieces; shaped = Action.assigns so
 action_with : {A : Type 0} (i : Input) (p : Piece) (r : Outcome A) → Next p i → Fits i (ActionWith p) EndsExpr r → Fits i Action EndsExpr r
 action_with i p r h fits = recast i (ActionWith p) Action EndsExpr EndsExpr r (record { wider = action_wider p; narrow = λ us vs shaped follows is. (action_narrow p us vs shaped (is ∙ h), follows) }) fits
 
-assigned_fits : (i : Input) → Fits i Assigned EndsExpr (assigned i)
-unfolding assigned
-assigned_fits i =
+assignment_fits : (i : Input) → Fits i Assigned EndsExpr (assignment i)
+unfolding assignment
+assignment_fits i =
     one_then i pieces.Name (One pieces.Assign · Expr) EndsExpr (input.variable i) _ (some_then (One pieces.Assign) Expr (some_one pieces.Assign) some_expr) (variable_fits i)
     (λ x j. one_then j pieces.Assign Expr EndsExpr (expect pieces.Assign j) _ some_expr (expect_fits j pieces.Assign)
     (λ y k. then_keeps k Expr EndsExpr (expr k) _ (expr_fits k) (λ value m. (refl, refl))))
 
-raised_fits : (i : Input) → Next pieces.Raise i → Fits i Raised EndsExpr (raised i)
-unfolding raised
-raised_fits i h =
-    next_then i pieces.Raise (One pieces.Name) EndsExpr (raised i) h
-    (follows_less (next i) (One pieces.Name) Anything EndsExpr (raised i) (λ q a. tt) (then_keeps (next i) (One pieces.Name) Anything (input.event (next i)) (λ e. pure (act.Raise e)) (event_fits (next i)) (λ x j. (refl, refl))))
+raise_action_fits : (i : Input) → Next pieces.Raise i → Fits i Raised EndsExpr (raise_action i)
+unfolding raise_action
+raise_action_fits i h =
+    next_then i pieces.Raise (One pieces.Name) EndsExpr (raise_action i) h
+    (follows_less (next i) (One pieces.Name) Anything EndsExpr (raise_action i) (λ q a. tt) (then_keeps (next i) (One pieces.Name) Anything (input.event (next i)) (λ e. pure (act.Raise e)) (event_fits (next i)) (λ x j. (refl, refl))))
 
-started_fits : (i : Input) → Next pieces.Start i → Fits i Started EndsExpr (started i)
-unfolding started
-started_fits i h =
-    next_then i pieces.Start (One pieces.Name) EndsExpr (started i) h
-    (follows_less (next i) (One pieces.Name) Anything EndsExpr (started i) (λ q a. tt) (then_keeps (next i) (One pieces.Name) Anything (input.activity (next i)) (λ a. pure (act.Start a)) (activity_fits (next i)) (λ x j. (refl, refl))))
+start_action_fits : (i : Input) → Next pieces.Start i → Fits i Started EndsExpr (start_action i)
+unfolding start_action
+start_action_fits i h =
+    next_then i pieces.Start (One pieces.Name) EndsExpr (start_action i) h
+    (follows_less (next i) (One pieces.Name) Anything EndsExpr (start_action i) (λ q a. tt) (then_keeps (next i) (One pieces.Name) Anything (input.activity (next i)) (λ a. pure (act.Start a)) (activity_fits (next i)) (λ x j. (refl, refl))))
 
 action_by_fits : (i : Input) (p : Piece) → Next p i → Fits i Action EndsExpr (action_by (Some p) i)
-action_by_fits i pieces.Name h = action_with i pieces.Name (assigned i) h (assigned_fits i)
-action_by_fits i pieces.Raise h = action_with i pieces.Raise (raised i) h (raised_fits i h)
-action_by_fits i pieces.Start h = action_with i pieces.Start (started i) h (started_fits i h)
+action_by_fits i pieces.Name h = action_with i pieces.Name (assignment i) h (assignment_fits i)
+action_by_fits i pieces.Raise h = action_with i pieces.Raise (raise_action i) h (raise_action_fits i h)
+action_by_fits i pieces.Start h = action_with i pieces.Start (start_action i) h (start_action_fits i h)
 action_by_fits i p h = stuck_here i Action EndsExpr some_action (λ us vs shaped follows is. action_narrow p us vs shaped (is ∙ h))
 
 action_fits : (i : Input) → Fits i Action EndsExpr (action i)
@@ -286,8 +286,8 @@ transition_fits i =
     (λ a j. one_then j pieces.Name FromTo Anything (input.state j) _ some_to (state_fits j)
     (λ source k. one_then k pieces.To FromTarget Anything (expect pieces.To k) _ some_target (expect_fits k pieces.To)
     (λ b l. one_then l pieces.Name FromCause Anything (input.state l) _ some_cause (state_fits l)
-    (λ target m. then_fits m (Maybe OnEvent) FromGuard (IsNot pieces.On) Anything (caused m) _ cause_joins some_guard (caused_fits m)
-    (λ event n got. then_fits n (Maybe IfExpr) FromEffects EndsGuard Anything (guarded n) _ guard_joins some_effects (guarded_fits n)
+    (λ target m. then_fits m (Maybe OnEvent) FromGuard (IsNot pieces.On) Anything (event_if_any m) _ cause_joins some_guard (event_if_any_fits m)
+    (λ event n got. then_fits n (Maybe IfExpr) FromEffects EndsGuard Anything (guard_if_any n) _ guard_joins some_effects (guard_if_any_fits n)
     (λ guard o got'. then_fits o (Maybe DoActions) (One pieces.Semicolon) EndsEffects Anything (effects o) _ effects_join some_end (effects_fits o)
     (λ done u got''. then_keeps u (One pieces.Semicolon) Anything (expect pieces.Semicolon u) _ (expect_fits u pieces.Semicolon) (λ c w. (refl, refl)))))))))
 

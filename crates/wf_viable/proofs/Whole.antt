@@ -9,7 +9,7 @@ use Rattle.wf_cursor.specs.Input.{Input, Outcome, Parser, and_then, ◌>>=◌, �
 use Rattle.wf_text.specs.Declarations.{declarations}
 use Rattle.wf_text.specs.States.{kind_of, root}
 use Rattle.wf_text.specs.Transitions.{transitions}
-use Rattle.wf_text.specs.Text.{finished, contents}
+use Rattle.wf_text.specs.Text.{text_end, contents}
 use Rattle.wf_grammar.specs.Lexemes.{lexeme_of}
 use Rattle.wf_grammar.specs.Drawing.{Part}
 use Rattle.wf_grammar.proofs.Reading.{Follow}
@@ -30,8 +30,8 @@ AtEnd q = q ≡ None
 some_nothing : Productive Empty
 some_nothing = record { pieces = []; shaped = Empty.empty }
 
-finished_fits : (i : Input) → Fits i Empty AtEnd (finished i)
-finished_fits i = by_test (nat_lt 0 (length i.left)) refl
+text_end_fits : (i : Input) → Fits i Empty AtEnd (text_end i)
+text_end_fits i = by_test (nat_lt 0 (length i.left)) refl
   where
     only : (us vs : List Piece) → Empty us → AtEnd (first vs) → first (us ++ vs) ≡ first (pieces_left i) → us ≡ []
     only us vs Empty.empty follows is = refl
@@ -95,11 +95,11 @@ some_name : Productive (One pieces.Name · One pieces.Semicolon · FromDeclarati
 some_name = some_then (One pieces.Name) (One pieces.Semicolon · FromDeclarations) (some_one pieces.Name) some_end
 
 -- transitions to the end
-to_the_end : (i : Input) (name : List ℕ) → Fits {A = List ℕ × List Move} i (Many Transition) AtEnd ((transitions >>= (λ found. finished >> pure (name, found))) i)
+to_the_end : (i : Input) (name : List ℕ) → Fits {A = List ℕ × List Move} i (Many Transition) AtEnd ((transitions >>= (λ found. text_end >> pure (name, found))) i)
 to_the_end i name =
-    recast_all i (Many Transition · Empty) (Many Transition) AtEnd ((transitions >>= (λ found. finished >> pure (name, found))) i) wider narrower
-    (then_fits i (Many Transition) Empty (IsNot pieces.From) AtEnd (transitions i) (λ found. finished >> pure (name, found)) end_joins some_nothing (transitions_fits i)
-    (λ found j got. then_keeps j Empty AtEnd (finished j) (λ _. pure (name, found)) (finished_fits j) (λ x k. (refl, refl))))
+    recast_all i (Many Transition · Empty) (Many Transition) AtEnd ((transitions >>= (λ found. text_end >> pure (name, found))) i) wider narrower
+    (then_fits i (Many Transition) Empty (IsNot pieces.From) AtEnd (transitions i) (λ found. text_end >> pure (name, found)) end_joins some_nothing (transitions_fits i)
+    (λ found j got. then_keeps j Empty AtEnd (text_end j) (λ _. pure (name, found)) (text_end_fits j) (λ x k. (refl, refl))))
   where
     wider : (us : List Piece) → (Many Transition · Empty) us → Many Transition us
     wider us both = by_back both.back both.is_back both.whole

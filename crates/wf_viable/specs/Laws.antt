@@ -100,3 +100,7 @@ MisfitIsFinal =
     tokens_of other ≡ Ok others → chart_of other ≡ Ok chart →
     take at (pieces_of other others) ≡ take at (pieces_of text tokens) →
     first (drop at (pieces_of other others)) ≢ first (drop at (pieces_of text tokens))
+
+-- Reading answers a chart or a fault of the text, and never that memory ran out: this answer is left to the code, where it does.
+abbrev pub ReadingHasMemory : Type 0
+ReadingHasMemory = (text : List ℕ) → chart_of text ≢ Err placed.NoMemory

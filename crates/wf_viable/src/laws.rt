@@ -4,6 +4,7 @@ ghost use Rattle.wf_viable.specs.Laws.{
   MisfitIsFinal,
   OtherFaultsFit,
   ReadIsShaped,
+  ReadingHasMemory,
   SpelledIsShaped,
   SyntaxIsFirstMisfit,
 };
@@ -39,4 +40,9 @@ pub fn spelled_is_shaped()
 /// A misfit is final: no text that means a chart has the same pieces before it and the same one there, whatever follows.
 pub fn misfit_is_final()
     ensures { MisfitIsFinal }
+{}
+
+/// The definition of reading answers a chart or a fault of the text, and never that memory ran out.
+pub fn reading_has_memory()
+    ensures { ReadingHasMemory }
 {}

@@ -5,6 +5,6 @@
 mod laws;
 
 pub use laws::{
-    first_misfit_is_told, misfit_is_final, other_faults_fit, read_is_shaped, spelled_is_shaped,
-    syntax_is_first_misfit,
+    first_misfit_is_told, misfit_is_final, other_faults_fit, read_is_shaped, reading_has_memory,
+    spelled_is_shaped, syntax_is_first_misfit,
 };

@@ -1,7 +1,7 @@
 use Rattle.std.proofs.Common.{rules, arith}
 use Rattle.std.proofs.lemmas.Grind.{common_steps}
 use Rattle.wf_text.specs.Transitions.{actions, actions_from}
-use Rattle.wf_text.proofs.Turns.{one_more, no_more}
+use Rattle.wf_phrase.proofs.Turns.{one_more, no_more}
 use Rattle.wf_text.proofs.actions.actions.Goals as goal
 
 pub returns-then-not-eat : goal.returns-then-not-eat

@@ -5,8 +5,8 @@ use Rattle.wf_text.proofs.states.+nested.Given as goal
 abbrev pub decreases-state : goal.decreases-state
 decreases-state l = 3 * l.depth + 1
 
-abbrev pub decreases-opened : goal.decreases-opened
-decreases-opened l = 3 * l.depth
+abbrev pub decreases-block : goal.decreases-block
+decreases-block l = 3 * l.depth
 
 abbrev pub decreases-children : goal.decreases-children
 decreases-children l = 3 * l.depth + 2

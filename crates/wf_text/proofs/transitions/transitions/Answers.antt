@@ -1,7 +1,7 @@
 use Rattle.std.proofs.Common.{rules, arith}
 use Rattle.std.proofs.lemmas.Grind.{common_steps}
 use Rattle.wf_text.specs.Transitions.{transitions, transitions_from}
-use Rattle.wf_text.proofs.Turns.{one_more, no_more}
+use Rattle.wf_phrase.proofs.Turns.{one_more, no_more}
 use Rattle.wf_text.proofs.transitions.transitions.Goals as goal
 
 pub loop-turn-init : goal.loop-turn-init

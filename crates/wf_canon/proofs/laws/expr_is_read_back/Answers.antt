@@ -1,5 +1,0 @@
-use Rattle.wf_canon.proofs.ReadBack.{expr_is_read_back}
-use Rattle.wf_canon.proofs.laws.expr_is_read_back.Goals as goal
-
-pub returns : goal.returns
-returns c = expr_is_read_back

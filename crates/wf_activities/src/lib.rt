@@ -1,4 +1,5 @@
-//! The items of one unit: the starts of its activities, numbered from 1, and which of them are closed.
+//! Items: the starts of activities, numbered from 1 at each unit, and which of them are closed. Those of one unit, and those of all units
+//! of a chart, with the admission rule.
 #![tactic(auto)]
 
 mod admission;

@@ -5,6 +5,5 @@ pub mod Spelled
 pub mod Commas
 pub mod Read
 pub mod Counted
-pub mod Orders
 pub mod Variables
 pub mod Sights

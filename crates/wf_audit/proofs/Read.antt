@@ -1,11 +1,11 @@
 -- One more line of a script.
 use Rattle.std.proofs.Common.{◌≡◌, ◌≢◌, ℕ, ◌+◌, List, [], ◌∷◌, ◌++◌, Option, Some, None, Result, Ok, Err, refl, sym, ◌∙◌, ap, append_assoc, append-nil}
-use Rattle.wf_model.specs.Steps.{both}
+use Rattle.wf_model.specs.Steps.{both, Gives}
 use Rattle.wf_audit.specs.declared.script.CentralLine.{CentralLine}
 use Rattle.wf_audit.specs.declared.script.ScriptFault.{ScriptFault}
 use Rattle.wf_audit.specs.Lines.{lines_of, first_line, behind_line}
 use Rattle.wf_audit.specs.Names.{Finder}
-use Rattle.wf_audit.specs.Script.{line_at, with_line, lines_from, Gives}
+use Rattle.wf_audit.specs.Script.{line_at, with_line, lines_from}
 use Rattle.wf_audit.specs.declared.script.ScriptFault.TheVariants as faults
 use Rattle.wf_audit.proofs.Split.{lines_of-split}
 
@@ -36,7 +36,6 @@ read_refused names number read rest fault some e = rw (lines_of-split rest some,
 
 pub gives_refused : (names : Finder) (number : ℕ) (read : List (ℕ × CentralLine)) (rest line : List ℕ) (fault : ScriptFault) (whole : Result (List (ℕ × CentralLine)) ScriptFault)
     → rest ≢ [] → line ≡ first_line rest → with_read read (lines_from names number (lines_of rest)) ≡ whole
-    → Gives {A = Option CentralLine} (Err fault) (line_at names number line) → Gives {A = List (ℕ × CentralLine)} (Err fault) whole
-gives_refused names number read rest line faults.NoMemory whole some first read_so refused = tt
-gives_refused names number read rest line (faults.Refused n) whole some first read_so refused =
-    sym read_so ∙ read_refused names number read rest (faults.Refused n) some (rw first at refused)
+    → Gives {A = Option CentralLine} faults.NoMemory (Err fault) (line_at names number line) → Gives {A = List (ℕ × CentralLine)} faults.NoMemory (Err fault) whole
+gives_refused names number read rest line fault whole some first read_so refused =
+    λ named. sym read_so ∙ read_refused names number read rest fault some (rw first at (refused named))

@@ -6,4 +6,3 @@ pub mod Outers
 pub mod Script
 pub mod Replies
 pub mod CentralText
-pub mod Standings

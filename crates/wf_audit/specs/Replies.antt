@@ -13,7 +13,7 @@ use Rattle.wf_model.specs.declared.outer.Output.{Output}
 use Rattle.wf_model.specs.declared.outer.OuterFault.{OuterFault}
 use Rattle.wf_model.specs.declared.outer.OuterFault.TheVariants.{WrongUnit, NoItem, AlreadyDone, WrongOutput}
 use Rattle.wf_words.specs.Names.{act_name, event_name, state_name, var_name}
-use Rattle.wf_central.specs.declared.notes.StepNotes.{StepNotes}
+use Rattle.wf_model.specs.declared.step_notes.StepNotes.{StepNotes}
 use Rattle.wf_audit.specs.declared.reply.Reply.{Reply}
 use Rattle.wf_audit.specs.declared.reply.Reply.TheVariants as reply
 

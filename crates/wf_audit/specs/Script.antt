@@ -1,5 +1,5 @@
 -- A script of the central run: what each of its lines says, or the first line that is outside the grammar.
-use Rattle.std.specs.Prelude.{◌≡◌, ℕ, ◌+◌, List, [], ◌∷◌, Option, Some, None, Result, Ok, Err, if◌then◌else◌}
+use Rattle.std.specs.Prelude.{ℕ, ◌+◌, List, [], ◌∷◌, Option, Some, None, Result, Ok, Err, if◌then◌else◌}
 use Rattle.std.specs.Option.{option_map}
 use Rattle.std.specs.Str.{bytes_eq}
 use lib.Chars.{codes}
@@ -74,9 +74,3 @@ lines_from names number (line ∷ lines) =
 -- the lines of the script that say something, each with its number counted from 1; or the first line outside the grammar
 unfoldable pub script_of : Chart → List ℕ → Result (List (ℕ × CentralLine)) ScriptFault
 script_of chart script = lines_from (names_of chart) 1 (lines_of script)
-
--- the answer is the wanted one, or memory ran out
-abbrev pub Gives : {A : Type 0} → Result A ScriptFault → Result A ScriptFault → Type 0
-Gives (Ok said) wanted = wanted ≡ Ok said
-Gives (Err faults.NoMemory) wanted = Unit {0}
-Gives (Err (faults.Refused number)) wanted = wanted ≡ Err (faults.Refused number)

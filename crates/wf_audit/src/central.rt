@@ -1,28 +1,24 @@
 //! The central run of a script.
-ghost use Rattle.std.specs.Prelude.{◌≡◌, ◌≤◌, ◌<◌, ◌+◌, ◌++◌, ◌==◌, length, filter, IfOk, OnOk};
+ghost use Rattle.std.specs.Prelude.{◌≡◌, ◌≤◌, ◌<◌, ◌+◌, length, IfOk, OnOk};
 ghost use Rattle.wf_model.specs.Accepted.{IsAccepted};
 ghost use Rattle.wf_model.specs.Limits.{max_steps, max_lines, max_report};
 ghost use Rattle.wf_central.specs.Kept.{central_of, IsOf};
 ghost use Rattle.wf_audit.specs.CentralText as spec;
-ghost use Rattle.wf_audit.specs.Standings.{standing_of, IsRun};
+ghost use Rattle.wf_central.specs.Standings.{standing_of, taken_by, IsRun};
 
 use crate::reply::{Reply, reply_line};
 use crate::script::CentralLine;
 use std::alloc::Global;
-use thiserror::Error;
-use wf_central::CentralState;
+use wf_central::{CentralRun, CentralState};
 use wf_model::limits::MAX_REPORT;
-use wf_model::{
-    Bytes, Chart, Checked, Duplicate, Entry, List, NoMemory, Outer, Output, StateId, UnitId, VarId,
-};
+use wf_model::{Bytes, Chart, Checked, List, NoMemory, OuterFault, Output, StateId, VarId};
 
 /// Why a run has no text.
-#[derive(Clone, Copy, Debug, Error)]
+#[derive(Clone, Copy)]
 pub enum RunFault {
     /// The text has more than `MAX_REPORT` bytes.
-    #[error("text too long")]
     TooLong,
-    #[error("out of memory")]
+    /// Memory ran out.
     NoMemory,
 }
 
@@ -35,42 +31,6 @@ impl From<NoMemory> for RunFault {
     fn from(_e: NoMemory) -> RunFault {
         RunFault::NoMemory
     }
-}
-
-/// Where a run stands: its state, and the outers that were admitted for the next step.
-#[derive(Drop)]
-struct Run {
-    central: CentralState,
-    pending: List<Entry>,
-}
-
-// Appends a copy of each entry of this unit.
-fn append_of(
-    alloc: Global,
-    ordered: &mut List<Entry>,
-    entries: &[Entry],
-    unit: UnitId,
-) -> Result<(), NoMemory>
-    ensures { OnOk result (ordered.new ≡ ordered.old ++ filter (λ x. x.unit.0 == unit.0) entries.now) }
-{
-    for entry in entries {
-        if entry.unit.0 == unit.0 {
-            ordered.push(entry.copy(alloc)?)?;
-        }
-    }
-    Ok(())
-}
-
-// The entries unit by unit. Grows with the entries times the units.
-fn in_unit_order(alloc: Global, chart: &Chart, entries: &[Entry]) -> Result<List<Entry>, NoMemory>
-    requires { IsAccepted chart.now }
-    ensures { IfOk result (λ ordered. ordered ≡ spec.in_unit_order chart.now entries.now) }
-{
-    let mut ordered = List::new(alloc);
-    for unit in 0..chart.units.len() {
-        append_of(alloc, &mut ordered, entries, UnitId(unit as u32))?;
-    }
-    Ok(ordered)
 }
 
 // The states that are in, ascending.
@@ -122,101 +82,63 @@ fn sight(alloc: Global, chart: &Chart, central: &CentralState) -> Result<Reply, 
     })
 }
 
-impl Run {
-    fn first(alloc: Global, checked: &Checked) -> Result<Run, NoMemory>
-        ensures standing { IfOk result (λ run. standing_of checked.now run ≡ spec.first_standing checked.now) }
-        ensures sound { IfOk result (λ run. IsRun checked.now run) }
-        ensures taken { IfOk result (λ run. run.central.taken ≡ 0) }
-    {
-        Ok(Run {
-            central: CentralState::first(alloc, checked)?,
-            pending: List::new(alloc),
-        })
+fn answered(answer: Result<(), OuterFault>) -> Reply
+    ensures { result ≡ spec.answer answer }
+{
+    match answer {
+        Ok(()) => Reply::Ok,
+        Err(fault) => Reply::Refused(fault),
     }
+}
 
-    fn admit(
-        &mut self,
-        alloc: Global,
-        checked: &Checked,
-        unit: UnitId,
-        outer: &Outer,
-    ) -> Result<Reply, NoMemory>
-        requires { IsRun checked.now self.old }
-        ensures reply { IfOk result (λ reply. reply ≡ spec.admitted checked.now (standing_of checked.now self.old) unit outer.now) }
-        ensures standing { OnOk result (standing_of checked.now self.new ≡ spec.after_outer checked.now (standing_of checked.now self.old) unit outer.now) }
-        ensures sound { OnOk result (IsRun checked.now self.new) }
-        ensures central { self.new.central ≡ self.old.central }
-    {
-        let admitted = self
-            .central
-            .may_admit(checked, self.pending.as_slice(), unit, outer);
-        match admitted {
-            Ok(()) => {
-                let outer = outer.copy(alloc)?;
-                self.pending.push(Entry { unit, outer })?;
-                Ok(Reply::Ok)
-            }
-            Err(fault) => Ok(Reply::Refused(fault)),
+// The reply to a line, after which the run stands where the line brings it.
+#[tactic(auto, unfolding(crate::specs::CentralText::reply_of, crate::specs::CentralText::after_line))]
+fn reply_to(
+    alloc: Global,
+    checked: &Checked,
+    run: &mut CentralRun,
+    line: &CentralLine,
+) -> Result<Reply, NoMemory>
+    requires of { IsRun checked.now run.old }
+    requires few { taken_by run.old < max_steps }
+    ensures reply { IfOk result (λ reply. reply ≡ spec.reply_of checked.now (standing_of checked.now run.old) line.now) }
+    ensures standing { OnOk result (standing_of checked.now run.new ≡ spec.after_line checked.now (standing_of checked.now run.old) line.now) }
+    ensures of { IsRun checked.now run.new }
+    ensures taken { OnOk result (taken_by run.new ≤ taken_by run.old + 1) }
+{
+    match line {
+        CentralLine::Outer { unit, outer } => {
+            let answer = run.admit(alloc, checked, *unit, outer)?;
+            Ok(answered(answer))
         }
-    }
-
-    fn step(&mut self, alloc: Global, checked: &Checked) -> Result<Reply, NoMemory>
-        requires sound { IsRun checked.now self.old }
-        requires few { self.old.central.taken < max_steps }
-        ensures reply { IfOk result (λ reply. reply ≡ spec.stepped checked.now (standing_of checked.now self.old)) }
-        ensures standing { OnOk result (standing_of checked.now self.new ≡ spec.after_step checked.now (standing_of checked.now self.old)) }
-        ensures sound { OnOk result (IsRun checked.now self.new) }
-        ensures taken { OnOk result (self.new.central.taken ≡ self.old.central.taken + 1) }
-    {
-        let coming = in_unit_order(alloc, checked.chart(), self.pending.as_slice())?;
-        let notes = self.central.step(alloc, checked, coming.as_slice())?;
-        self.pending = List::new(alloc);
-        Ok(Reply::Stepped {
-            step: self.central.taken(),
-            notes,
-        })
-    }
-
-    // The reply to a line, after which the run stands where the line brings it.
-    #[tactic(auto, unfolding(crate::specs::CentralText::reply_of, crate::specs::CentralText::after_line))]
-    fn reply(
-        &mut self,
-        alloc: Global,
-        checked: &Checked,
-        line: &CentralLine,
-    ) -> Result<Reply, NoMemory>
-        requires sound { IsRun checked.now self.old }
-        requires few { self.old.central.taken < max_steps }
-        ensures reply { IfOk result (λ reply. reply ≡ spec.reply_of checked.now (standing_of checked.now self.old) line.now) }
-        ensures standing { OnOk result (standing_of checked.now self.new ≡ spec.after_line checked.now (standing_of checked.now self.old) line.now) }
-        ensures sound { OnOk result (IsRun checked.now self.new) }
-        ensures taken { OnOk result (self.new.central.taken ≤ self.old.central.taken + 1) }
-    {
-        match line {
-            CentralLine::Outer { unit, outer } => self.admit(alloc, checked, *unit, outer),
-            CentralLine::Step => self.step(alloc, checked),
-            CentralLine::Show => sight(alloc, checked.chart(), &self.central),
+        CentralLine::Step => {
+            let notes = run.step(alloc, checked)?;
+            Ok(Reply::Stepped {
+                step: run.state().taken(),
+                notes,
+            })
         }
+        CentralLine::Show => sight(alloc, checked.chart(), run.state()),
     }
+}
 
-    // The line of the reply to the line with this number.
-    fn answer(
-        &mut self,
-        alloc: Global,
-        checked: &Checked,
-        number: u32,
-        line: &CentralLine,
-    ) -> Result<Bytes, NoMemory>
-        requires sound { IsRun checked.now self.old }
-        requires few { self.old.central.taken < max_steps }
-        ensures text { IfOk result (λ text. text ≡ spec.reply_line checked.now (standing_of checked.now self.old) number line.now) }
-        ensures standing { OnOk result (standing_of checked.now self.new ≡ spec.after_line checked.now (standing_of checked.now self.old) line.now) }
-        ensures sound { OnOk result (IsRun checked.now self.new) }
-        ensures taken { OnOk result (self.new.central.taken ≤ self.old.central.taken + 1) }
-    {
-        let reply = self.reply(alloc, checked, line)?;
-        reply_line(alloc, checked, number, &reply)
-    }
+// The line of the reply to the line with this number.
+fn line_of_reply(
+    alloc: Global,
+    checked: &Checked,
+    run: &mut CentralRun,
+    number: u32,
+    line: &CentralLine,
+) -> Result<Bytes, NoMemory>
+    requires of { IsRun checked.now run.old }
+    requires few { taken_by run.old < max_steps }
+    ensures text { IfOk result (λ text. text ≡ spec.reply_line checked.now (standing_of checked.now run.old) number line.now) }
+    ensures standing { OnOk result (standing_of checked.now run.new ≡ spec.after_line checked.now (standing_of checked.now run.old) line.now) }
+    ensures of { IsRun checked.now run.new }
+    ensures taken { OnOk result (taken_by run.new ≤ taken_by run.old + 1) }
+{
+    let reply = reply_to(alloc, checked, run, line)?;
+    reply_line(alloc, checked, number, &reply)
 }
 
 // Adds a line to a text, if the text stays short enough.
@@ -243,10 +165,10 @@ pub fn run_central(
     requires { length script.now ≤ max_lines }
     ensures { spec.GivesText result (spec.central_text checked.now script.now) }
 {
-    let mut run = Run::first(alloc, checked)?;
+    let mut run = CentralRun::start(alloc, checked)?;
     let mut text = List::new(alloc);
     for (number, line) in script {
-        let answer = run.answer(alloc, checked, *number, line)?;
+        let answer = line_of_reply(alloc, checked, &mut run, *number, line)?;
         add(&mut text, answer.as_slice())?;
     }
     Ok(text)

@@ -5,9 +5,9 @@ ghost use Rattle.wf_audit.specs.Replies as spec;
 
 use itoa::Buffer;
 use std::alloc::Global;
-use wf_central::StepNotes;
 use wf_model::{
-    ActId, Bytes, Chart, Checked, EventId, List, NoMemory, OuterFault, Output, StateId, TransId, Val,
+    ActId, Bytes, Chart, Checked, EventId, List, NoMemory, OuterFault, Output, StateId, StepNotes,
+    TransId, Val,
 };
 use wf_words::{act_name, append_number, event_name, state_name, var_name};
 

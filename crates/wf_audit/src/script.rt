@@ -4,6 +4,7 @@ ghost use Rattle.std.specs.Result.{result_ok};
 ghost use Rattle.wf_lex.specs.Lex.{line_tokens_of};
 ghost use Rattle.wf_audit.specs.Finders.{finder_of};
 ghost use Rattle.wf_audit.specs.Script as spec;
+ghost use Rattle.wf_model.specs.Steps.{Gives};
 ghost use Rattle.wf_model.specs.Limits.{max_input};
 
 use crate::lines::split_line;
@@ -11,7 +12,6 @@ use crate::names::Names;
 use crate::outer::outer_of;
 use crate::values::text_at;
 use std::alloc::Global;
-use thiserror::Error;
 use wf_lex::{LexFault, Token, line_tokens};
 use wf_model::{Checked, List, NoMemory, Outer, UnitId};
 
@@ -27,12 +27,11 @@ pub enum CentralLine {
 }
 
 /// Why a script has no lines.
-#[derive(Clone, Copy, Debug, Error)]
+#[derive(Clone, Copy)]
 pub enum ScriptFault {
     /// The first line outside the grammar, counted from 1.
-    #[error("line {line}")]
     Refused { line: u32 },
-    #[error("out of memory")]
+    /// Memory ran out.
     NoMemory,
 }
 
@@ -129,7 +128,7 @@ fn line_at(
     line: &[u8],
 ) -> Result<Option<CentralLine>, ScriptFault>
     requires { length line.now ≤ max_input }
-    ensures { spec.Gives result (spec.line_at (finder_of names.now) number line.now) }
+    ensures { Gives ScriptFault.NoMemory result (spec.line_at (finder_of names.now) number line.now) }
 {
     let said = match tokens_in(alloc, line)? {
         Some(tokens) => said_by(alloc, names, line, tokens.as_slice())?,
@@ -161,7 +160,7 @@ pub fn read_central(
     script: &[u8],
 ) -> Result<List<(u32, CentralLine)>, ScriptFault>
     requires { length script.now ≤ max_input }
-    ensures { spec.Gives result (spec.script_of checked.now script.now) }
+    ensures { Gives ScriptFault.NoMemory result (spec.script_of checked.now script.now) }
 {
     let names = Names::of(alloc, checked.chart())?;
     let mut lines = List::new(alloc);

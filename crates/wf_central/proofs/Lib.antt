@@ -7,3 +7,5 @@ pub mod Sights
 pub mod Few
 pub mod Same
 pub mod Marking
+pub mod Orders
+pub mod Standings

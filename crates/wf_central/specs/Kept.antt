@@ -13,7 +13,7 @@ use Rattle.wf_semantics.specs.Run.{CentralState, fired_in, started_in}
 use Rattle.wf_semantics.specs.Shown.{HasSorts}
 use Rattle.wf_scopes.specs.Tables.{Tables, tables_of}
 use Rattle.wf_activities.specs.Stock.{Stock, AreOf, AreStarted, items_at}
-use Rattle.wf_central.specs.declared.notes.StepNotes.{StepNotes}
+use Rattle.wf_model.specs.declared.step_notes.StepNotes.{StepNotes}
 
 pub record Kept : Type 0 where
   -- for each state, whether it is in

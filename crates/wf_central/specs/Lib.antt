@@ -2,3 +2,4 @@ pub mod Kept
 pub mod Passes
 pub mod Sight
 pub mod Made
+pub mod Standings

@@ -1,12 +1,11 @@
 //! The central run of a chart: its state, step by step.
 #![tactic(auto)]
 
-mod notes;
 mod outputs;
 mod passes;
+mod run;
 mod snapshot;
-mod start;
 mod state;
 
-pub use notes::StepNotes;
+pub use run::CentralRun;
 pub use state::CentralState;

@@ -3,12 +3,11 @@ ghost use Rattle.std.specs.Prelude.{◌≡◌, ◌<◌, ◌+◌, ◌++◌, ◌==
 ghost use Rattle.wf_model.specs.Accepted.{IsAccepted};
 ghost use Rattle.wf_model.specs.Limits.{max_steps};
 ghost use Rattle.wf_semantics.specs.Standing as spec;
-ghost use Rattle.wf_central.specs.Kept.{central_of, notes_of};
-ghost use Rattle.wf_central.specs.Standings.{standing_of, IsRun};
+ghost use Rattle.wf_central.specs.Kept.{notes_of};
+ghost use Rattle.wf_central.specs.Standings.{standing_of, state_of, taken_by, IsRun};
 
 use crate::CentralState;
 use std::alloc::Global;
-use std::marker::Model;
 use wf_model::{
     Chart, Checked, Duplicate, Entry, List, NoMemory, Outer, OuterFault, StepNotes, UnitId,
 };
@@ -18,14 +17,6 @@ use wf_model::{
 pub struct CentralRun {
     central: CentralState,
     pending: List<Entry>,
-}
-
-impl Model for CentralRun {
-    ghost use Rattle.wf_central.specs.Standings.{KeptRun};
-
-    ghost Value = { KeptRun };
-
-    ghost view = { λ r. record { central = r.central; pending = r.pending } };
 }
 
 // Appends a copy of each entry of this unit.
@@ -60,9 +51,10 @@ fn in_unit_order(alloc: Global, chart: &Chart, entries: &[Entry]) -> Result<List
 impl CentralRun {
     /// The run before its first step, where nothing is pending. Works out the tables of the chart, once.
     pub fn start(alloc: Global, checked: &Checked) -> Result<CentralRun, NoMemory>
-        ensures standing { IfOk result (λ run. standing_of checked.now run ≡ spec.first_standing checked.now) }
+        ensures standing { IfOk result (λ run.
+            standing_of checked.now run ≡ spec.first_standing checked.now) }
         ensures of { IfOk result (λ run. IsRun checked.now run) }
-        ensures taken { IfOk result (λ run. run.central.taken ≡ 0) }
+        ensures taken { IfOk result (λ run. taken_by run ≡ 0) }
     {
         Ok(CentralRun {
             central: CentralState::first(alloc, checked)?,
@@ -72,7 +64,7 @@ impl CentralRun {
 
     /// The state after the steps so far. Takes no memory.
     pub fn state(&self) -> &CentralState
-        ensures { result.now ≡ self.now.central }
+        ensures { result.now ≡ state_of self.now }
     {
         &self.central
     }
@@ -87,31 +79,38 @@ impl CentralRun {
         outer: &Outer,
     ) -> Result<Result<(), OuterFault>, NoMemory>
         requires { IsRun checked.now self.old }
-        ensures answer { IfOk result (λ a. a ≡ spec.admission checked.now (standing_of checked.now self.old) unit outer.now) }
-        ensures standing { OnOk result (standing_of checked.now self.new ≡ spec.after_admission checked.now (standing_of checked.now self.old) unit outer.now) }
+        ensures answer { IfOk result (λ a.
+            a ≡ spec.admission checked.now (standing_of checked.now self.old) unit outer.now) }
+        ensures standing { OnOk result (standing_of checked.now self.new
+            ≡ spec.after_admission checked.now (standing_of checked.now self.old) unit outer.now) }
         ensures of { IsRun checked.now self.new }
-        ensures central { self.new.central ≡ self.old.central }
+        ensures state { state_of self.new ≡ state_of self.old }
         ensures err { OnErr result (self.new ≡ self.old) }
     {
         let admitted = self
             .central
             .may_admit(checked, self.pending.as_slice(), unit, outer);
-        if admitted.is_ok() {
-            let outer = outer.copy(alloc)?;
-            self.pending.push(Entry { unit, outer })?;
+        match admitted {
+            Ok(()) => {
+                let outer = outer.copy(alloc)?;
+                self.pending.push(Entry { unit, outer })?;
+                Ok(Ok(()))
+            }
+            Err(fault) => Ok(Err(fault)),
         }
-        Ok(admitted)
     }
 
     /// Takes one step, in which all that is pending comes, unit by unit. Grows as `CentralState::step`, and with the pending
     /// entries times the units. After `NoMemory` the run is as before.
     pub fn step(&mut self, alloc: Global, checked: &Checked) -> Result<StepNotes, NoMemory>
         requires of { IsRun checked.now self.old }
-        requires few { self.old.central.taken < max_steps }
-        ensures notes { IfOk result (λ n. n ≡ notes_of checked.now (central_of checked.now self.old.central) (spec.next_entries checked.now (standing_of checked.now self.old))) }
-        ensures standing { OnOk result (standing_of checked.now self.new ≡ spec.after_step checked.now (standing_of checked.now self.old)) }
+        requires few { taken_by self.old < max_steps }
+        ensures notes { let before = standing_of checked.now self.old in
+            IfOk result (λ n. n ≡ notes_of checked.now before.central (spec.next_entries checked.now before)) }
+        ensures standing { OnOk result (standing_of checked.now self.new
+            ≡ spec.after_step checked.now (standing_of checked.now self.old)) }
         ensures of { IsRun checked.now self.new }
-        ensures taken { OnOk result (self.new.central.taken ≡ self.old.central.taken + 1) }
+        ensures taken { OnOk result (taken_by self.new ≡ taken_by self.old + 1) }
         ensures err { OnErr result (self.new ≡ self.old) }
     {
         let coming = in_unit_order(alloc, checked.chart(), self.pending.as_slice())?;

@@ -1,5 +1,5 @@
 //! The state of a chart.
-ghost use Rattle.std.specs.Prelude.{◌≡◌, ◌+◌, ◌<◌, Some, length, slice_get, IsTrue, IfOk, OnOk, OnErr};
+ghost use Rattle.std.specs.Prelude.{◌≡◌, ◌+◌, ◌<◌, Some, length, map, slice_get, IsTrue, IfOk, OnOk, OnErr};
 ghost use Rattle.wf_model.specs.Accepted.{IsAccepted};
 ghost use Rattle.wf_model.specs.declared.chart.Chart.{Chart as AnyChart};
 ghost use Rattle.wf_model.specs.Limits.{max_steps};
@@ -10,14 +10,15 @@ ghost use Rattle.wf_semantics.specs.Shown.{HasSorts};
 ghost use Rattle.wf_central.specs.Kept.{central_of, IsOf, StartInStep, notes_of};
 ghost use Rattle.wf_central.specs.Made.{MakesStep};
 
+use crate::outputs;
 use crate::passes::{self, AfterStep};
 use crate::snapshot::{self, StepSnapshot};
-use crate::{StepNotes, outputs, start};
 use std::alloc::Global;
 use std::marker::Model;
 use wf_activities::{AllItems, done_in};
 use wf_model::{
-    Chart, Checked, Entry, EventId, List, NoMemory, Outer, OuterFault, StateId, UnitId, Val, VarId,
+    Chart, Checked, Entry, EventId, List, NoMemory, Outer, OuterFault, StateId, StepNotes, UnitId,
+    Val, VarId,
 };
 use wf_scopes::{Scopes, default_bits};
 
@@ -31,6 +32,17 @@ pub struct CentralState {
     items: AllItems,
     taken: u32,
     scopes: Scopes,
+}
+
+// The value of each variable before the first step.
+fn first_values(alloc: Global, chart: &Chart) -> Result<List<Val>, NoMemory>
+    ensures { IfOk result (λ values. values ≡ map (λ x. x.first) chart.now.vars) }
+{
+    let mut values = List::new(alloc);
+    for variable in chart.vars.as_slice() {
+        values.push(variable.first)?;
+    }
+    Ok(values)
 }
 
 impl Model for CentralState {
@@ -48,7 +60,7 @@ impl CentralState {
         ensures of { IfOk result (λ c. IsOf checked.now c) }
     {
         let active = default_bits(alloc, checked.chart())?;
-        let store = start::first_values(alloc, checked.chart())?;
+        let store = first_values(alloc, checked.chart())?;
         let items = AllItems::of(alloc, checked)?;
         let scopes = Scopes::of(alloc, checked)?;
         Ok(CentralState {
@@ -68,7 +80,7 @@ impl CentralState {
         snapshot::is_set(self.active.as_slice(), s.0 as usize)
     }
 
-    /// The value of a variable of the chart. A number that no variable has counts as a variable that is false. Takes no memory.
+    /// The value of a variable of the chart. Takes no memory.
     pub fn var(&self, v: VarId) -> Val
         ensures { (chart : AnyChart) → IsOf chart self.now → v.0 < length chart.vars → slice_get (central_of chart self.now).store v.0 ≡ Some result }
     {

@@ -1,11 +1,10 @@
 //! A reader, a writer and clocks over which the adapters stand.
 ghost use Rattle.std.specs.Prelude.{◌≡◌, IfOk};
 
-use std::io;
 use std::io::{ErrorKind, Read, Write};
 use std::test::Fail;
-use std::time;
 use std::time::Duration;
+use std::{io, time};
 use wf_io::{Clock, Sink, Source, StdClock, StdSink, StdSource, read_all, write_all};
 
 /// A signal interrupts its first call and each other one. The others fail if it is broken; else it is at its end, and
@@ -50,8 +49,14 @@ impl Write for Interrupted {
 #[test]
 fn interrupted_calls_are_made_again(rt: HostRuntime) {
     for is_broken in [false, true] {
-        let mut source = StdSource::new(Interrupted { calls: 0, is_broken });
-        let mut sink = StdSink::new(Interrupted { calls: 0, is_broken });
+        let mut source = StdSource::new(Interrupted {
+            calls: 0,
+            is_broken,
+        });
+        let mut sink = StdSink::new(Interrupted {
+            calls: 0,
+            is_broken,
+        });
         let fail = (source.read(&mut [0]).is_err(), sink.write(b"x").is_err());
         assert!(rt; fail == (is_broken, is_broken), "broken {is_broken}");
     }
@@ -94,7 +99,10 @@ fn clocks(rt: HostRuntime) {
         (Some(u64::MAX), -1),
     ];
     for (seconds, wanted) in rows {
-        assert!(rt; StdClock::new(Fixed(seconds)).now() == wanted, "at {wanted}");
+        assert!(rt;
+            StdClock::new(Fixed(seconds)).now() == wanted,
+            "at {wanted}"
+        );
     }
     assert!(rt; StdClock::new(&rt).now() > 0);
 }

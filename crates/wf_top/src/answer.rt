@@ -20,13 +20,18 @@ pub struct Answer {
     pub text: Bytes,
 }
 
+impl Answer {
+    pub fn new(status: Status, text: Bytes) -> Answer
+        ensures { result ≡ spec.answer status text }
+    {
+        Answer { status, text }
+    }
+}
+
 fn accepted(alloc: Global, chart: &Checked) -> Result<Answer, NoMemory>
     ensures { IfOk result (λ a. a ≡ spec.answer Status.Ok (accepted_line chart.now)) }
 {
-    Ok(Answer {
-        status: Status::Ok,
-        text: accepted_line(alloc, chart.chart())?,
-    })
+    Ok(Answer::new(Status::Ok, accepted_line(alloc, chart.chart())?))
 }
 
 /// The answer of a command to an input.
@@ -37,10 +42,7 @@ pub fn answer_to(alloc: Global, command: Command, input: &[u8]) -> Result<Answer
 {
     let parts = divide(input);
     match chart_in(alloc, parts.chart)? {
-        Err(text) => Ok(Answer {
-            status: Status::ChartRefused,
-            text,
-        }),
+        Err(text) => Ok(Answer::new(Status::ChartRefused, text)),
         Ok(chart) => match command {
             Command::Check => accepted(alloc, &chart),
             Command::Central => central(alloc, &chart, parts.script),

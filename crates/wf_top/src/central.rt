@@ -19,14 +19,8 @@ fn run(alloc: Global, chart: &Checked, lines: &[(u32, CentralLine)]) -> Result<A
     ensures { IfOk result (λ a. a ≡ spec.run_answer (central_text chart.now lines.now)) }
 {
     match run_central(alloc, chart, lines) {
-        Ok(text) => Ok(Answer {
-            status: Status::Ok,
-            text,
-        }),
-        Err(RunFault::TooLong) => Ok(Answer {
-            status: Status::Limit,
-            text: too_long_report(alloc)?,
-        }),
+        Ok(text) => Ok(Answer::new(Status::Ok, text)),
+        Err(RunFault::TooLong) => Ok(Answer::new(Status::Limit, too_long_report(alloc)?)),
         Err(RunFault::NoMemory) => Err(NoMemory),
     }
 }
@@ -39,10 +33,10 @@ fn answer_lines(alloc: Global, chart: &Checked, script: &[u8]) -> Result<Answer,
 {
     match read_central(alloc, chart, script) {
         Ok(lines) => run(alloc, chart, lines.as_slice()),
-        Err(ScriptFault::Refused { line }) => Ok(Answer {
-            status: Status::ScriptRefused,
-            text: script_line(alloc, line)?,
-        }),
+        Err(ScriptFault::Refused { line }) => Ok(Answer::new(
+            Status::ScriptRefused,
+            script_line(alloc, line)?,
+        )),
         Err(ScriptFault::NoMemory) => Err(NoMemory),
     }
 }
@@ -58,9 +52,6 @@ pub fn central(alloc: Global, chart: &Checked, script: &[u8]) -> Result<Answer, 
     if line_count(script) <= MAX_LINES {
         answer_lines(alloc, chart, script)
     } else {
-        Ok(Answer {
-            status: Status::Limit,
-            text: too_many_lines(alloc)?,
-        })
+        Ok(Answer::new(Status::Limit, too_many_lines(alloc)?))
     }
 }

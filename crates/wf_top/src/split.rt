@@ -19,14 +19,8 @@ pub fn split(alloc: Global, chart: &Checked) -> Result<Answer, NoMemory>
     let flat = orthogonalise(alloc, chart)?;
     let text = split_text(alloc, chart, &flat)?;
     if text.len() <= MAX_REPORT {
-        Ok(Answer {
-            status: Status::Ok,
-            text,
-        })
+        Ok(Answer::new(Status::Ok, text))
     } else {
-        Ok(Answer {
-            status: Status::Limit,
-            text: too_long_report(alloc)?,
-        })
+        Ok(Answer::new(Status::Limit, too_long_report(alloc)?))
     }
 }

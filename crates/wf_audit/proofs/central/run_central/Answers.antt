@@ -1,7 +1,8 @@
 use Rattle.std.proofs.Common.{rules, arith, ◌≡◌, ◌≤◌, ◌∙◌, ◌+◌, List, ℕ, Result, Err, length, ap, sym, subst}
 use Rattle.wf_audit.specs.declared.central.RunFault.{RunFault}
-use Rattle.wf_audit.specs.CentralText.{GivesText, central_text, first_standing, replies_to}
-use Rattle.wf_audit.specs.Standings.{standing_of}
+use Rattle.wf_audit.specs.CentralText.{GivesText, central_text, replies_to}
+use Rattle.wf_semantics.specs.Standing.{first_standing}
+use Rattle.wf_central.specs.Standings.{standing_of}
 use Rattle.wf_audit.proofs.Sights.{gives_fault, replies_long}
 use Rattle.wf_audit.proofs.central.run_central.Goals as goal
 

@@ -1,4 +1,4 @@
-use Rattle.std.proofs.Common.{◌≡◌, ◌||◌, Bool, List, length, map, take, subst}
+use Rattle.std.proofs.Common.{◌≡◌, ◌||◌, ℕ, Bool, List, length, map, take, subst}
 use Rattle.std.specs.List.{list_any, range_with_len}
 use Rattle.wf_model.specs.declared.outer.Entry.{Entry}
 use Rattle.wf_semantics.specs.Run.{is_happening}
@@ -11,9 +11,9 @@ loop-entry-init c = happening_none c.args.raised.now (length c.args.chart.now.ev
 
 pub loop-entry-preserved : goal.loop-entry-preserved
 loop-entry-preserved c =
-    let n = length c.args.chart.now.events in
-    let i = c.loop-entry.entry-index in
-    let before = λ e. was_raised c.args.raised.now e || list_any (λ x. is_happening e x.outer) (take i c.args.entries.now) in
+    let n : ℕ = length c.args.chart.now.events in
+    let i : ℕ = c.loop-entry.entry-index in
+    let before : ℕ → Bool = λ e. was_raised c.args.raised.now e || list_any (λ x. is_happening e x.outer) (take i c.args.entries.now) in
     happening_more c.args.raised.now c.args.entries.now n i c.entry-item.result c.mark_happening.new.bits c.loop-entry-test.true
     (subst (λ (x : Entry). c.mark_happening.new.bits ≡ map (λ e. before e || is_happening e x.outer) (range_with_len 0 n)) c.entry-item.is
     (c.mark_happening.ensures before n c.loop-entry.invariant))

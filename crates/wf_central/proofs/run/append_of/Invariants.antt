@@ -1,5 +1,5 @@
 use Rattle.std.proofs.Common.{◌≡◌, ◌++◌, ◌==◌, drop, filter}
-use Rattle.wf_audit.proofs.central.append_of.Given as goal
+use Rattle.wf_central.proofs.run.append_of.Given as goal
 
 abbrev pub invariant-loop-entry : goal.invariant-loop-entry
 invariant-loop-entry l =

@@ -1,4 +1,4 @@
--- Entries that may come in the order of their lines may come unit by unit too.
+-- Entries that may come in the order of their admission may come unit by unit too.
 use Rattle.std.proofs.Common.{◌≡◌, ◌≢◌, ◌≤◌, ℕ, zero, suc, ◌+◌, ◌==◌, ◌&&◌, ◌||◌, Bool, true, false, List, [], ◌∷◌, ◌++◌, length, is_ok, filter, flat_map, refl, sym, ◌∙◌, ap, ap₂, subst, inl, inr, arith, append-nil, append_assoc}
 use Rattle.std.proofs.Math.Bool.{or-false}
 use Rattle.std.proofs.lemmas.Bool.{cases_Bool, eqb-true}
@@ -11,7 +11,7 @@ use Rattle.wf_model.specs.declared.outer.Entry.{Entry}
 use Rattle.wf_semantics.specs.Run.{CentralState}
 use Rattle.wf_semantics.specs.Admission.{completes, is_pending, may_be_admitted, may_come_after, may_come}
 use Rattle.wf_model.proofs.Bools.{and_both, and_true}
-use Rattle.wf_audit.specs.CentralText.{in_unit_order}
+use Rattle.wf_semantics.specs.Standing.{in_unit_order}
 
 -- the entries may come behind those that are pending
 abbrev pub Comes : Chart → CentralState → (pending xs : List Entry) → Type 0

@@ -3,11 +3,11 @@ use Rattle.wf_model.specs.declared.outer.Entry.{Entry}
 use Rattle.wf_model.specs.declared.outer.Outer.{Outer}
 use Rattle.wf_semantics.specs.Admission.{may_be_admitted, may_come}
 use Rattle.wf_central.specs.Kept.{central_of}
-use Rattle.wf_audit.proofs.Orders.{may_come-more}
-use Rattle.wf_audit.proofs.central.Run.admit.Goals as goal
+use Rattle.wf_central.proofs.Orders.{may_come-more}
+use Rattle.wf_central.proofs.run.CentralRun.admit.Goals as goal
 
-pub returns-in_ok-push-in-Ok-clause-sound : goal.returns-in_ok-push-in-Ok-clause-sound
-returns-in_ok-push-in-Ok-clause-sound c =
+pub returns-in_ok-push-in-Ok-clause-of : goal.returns-in_ok-push-in-Ok-clause-of
+returns-in_ok-push-in-Ok-clause-of c =
     let chart = c.args.checked.now in
     let pending = c.args.self.now.pending in
     let central = central_of chart c.args.self.now.central in

@@ -1,7 +1,7 @@
 use Rattle.std.proofs.Common.{◌++◌, ◌==◌, filter, arith, sym, ap, ◌∙◌}
 use Rattle.wf_model.proofs.Few.{few_units}
-use Rattle.wf_audit.proofs.Sights.{pieces_more}
-use Rattle.wf_audit.proofs.central.in_unit_order.Goals as goal
+use Rattle.wf_central.proofs.Standings.{pieces_more}
+use Rattle.wf_central.proofs.run.in_unit_order.Goals as goal
 
 pub overflow_cast-unit : goal.overflow_cast-unit
 overflow_cast-unit c = omega (arith, few_units c.args.chart.now c.requires)

@@ -63,8 +63,9 @@ impl<D: Disk> Model for Journal<D> {
 impl<D: Disk> Journal<D> {
     /// Finds the end of the journal on a disk, or makes a new one on a disk of fewer than two bytes. It syncs first.
     /// A refusal hands the disk back. Either way the disk has its bodies as before, and of two bytes or more it has each
-    /// byte as before. A crash meanwhile leaves a disk on which a journal starts, if one did before. In linear time in
-    /// the number of frames, with the head of one in memory at a time.
+    /// byte as before. A crash meanwhile leaves a disk on which a journal starts, if one did before. It makes three
+    /// strokes on a disk of fewer than two bytes and else one, which it makes also if it is refused by a bad frame. In
+    /// linear time in the number of frames, with the head of one in memory at a time.
     pub fn start(alloc: Global, disk: D) -> Result<Journal<D>, JournalRefused<D>>
         // At Ok: a closed gate is found or made, and a crash leaves the file as it is.
         ensures left { IfOk result (λ journal.
@@ -85,7 +86,7 @@ impl<D: Disk> Journal<D> {
 
         // The disk's strokes.
         ensures strokes { IfOk result (λ journal. TakesStrokes (D.told disk) (D.told journal.disk)) }
-        ensures one { IfErr result (λ refused. refused.fault ≢ StartFault.DiskFailed →
+        ensures one_stroke { IfErr result (λ refused. refused.fault ≢ StartFault.DiskFailed →
             (D.told refused.disk).clock ≡ (D.told disk).clock + 1) }
         ensures plan { IfOk result (λ journal. WentOn (D.told disk) (D.told journal.disk)) }
         ensures plan_refused { IfErr result (λ refused.
@@ -130,8 +131,9 @@ impl<D: Disk> Journal<D> {
 
     /// Adds a body, in four strokes. At `Ok` each crash from then on leaves a journal that has it. `Reopen`, `TooLong`
     /// and `Full` come in this order, before anything is done, and leave the journal as it was. After `NoMemory` the
-    /// bodies are as before; it doesn't come where the journal and its disk have room. After `DiskFailed` the body may
-    /// stand or not, and each later append answers `Reopen`. In linear time in the body.
+    /// bodies are as before; it doesn't come where the journal and its disk have room. `DiskFailed` comes at the first
+    /// stroke that the disk is to fail, which is the last of this call. Then the body may stand or not, and each later
+    /// append answers `Reopen`. In linear time in the body.
     pub fn append(&mut self, body: &[u8]) -> Result<(), AppendFault>
         // Refused before anything is done: nothing changed.
         ensures refused { IfSome (refusal_of self.old.failed self.old.place (length body.now))
@@ -193,8 +195,8 @@ impl<D: Disk> Journal<D> {
     }
 
     /// Reads the body of the frame at a place into `into`, and gives the place behind it; none at the end. The place
-    /// is 0, or was given by an earlier read. At the end and after an `Err` `into` is empty. In linear time in the body,
-    /// for which the memory that `into` has is used again.
+    /// is 0, or was given by an earlier read. At the end and after an `Err` `into` is empty. `DiskFailed` comes only
+    /// over a disk that is down. In linear time in the body, for which the memory that `into` has is used again.
     pub fn read(&mut self, place: u64, into: &mut Bytes) -> Result<Option<u64>, ReadFault>
         ensures read { IfOk result (λ found. IsReadFrom (D.told self.old.disk) place found into.new) }
         ensures next { IfOk result (λ found. IfSome found (λ next. next ≡ place + (header + length into.new))) }

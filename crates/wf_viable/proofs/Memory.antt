@@ -1,6 +1,5 @@
 -- That the definition of reading never answers that memory ran out.
 use Rattle.std.proofs.Common.{◌≡◌, ◌≢◌, ℕ, zero, suc, ◌+◌, Bool, true, false, not, ◌==◌, if◌then◌else◌, List, [], ◌∷◌, Option, Some, None, Result, Ok, Err, subst}
-use Rattle.wf_model.specs.Limits.{max_tokens}
 use Rattle.wf_model.specs.declared.chart.Transition.{Transition as Move}
 use Rattle.wf_model.specs.declared.chart.Chart.{Chart as Drawing}
 use Rattle.wf_lex.specs.declared.token.TokenKind.{TokenKind}
@@ -38,27 +37,27 @@ first_has found (Err (lexed.BadByte at)) has = tt
 first_has found (Err (lexed.TooManyTokens at)) has = tt
 first_has found (Err lexed.NoMemory) has = has
 
-token_has : (len count b : ℕ) (bs : List ℕ) (found : Option (TokenKind × ℕ)) (more : ℕ → Result (List Token) LexFault) → ((n : ℕ) → HasMemory (more n))
-    → HasMemory (lex_token len count b bs found more)
-token_has len count b bs None more has = tt
-token_has len count b bs (Some t) more has =
+token_has : (most len count b : ℕ) (bs : List ℕ) (found : Option (TokenKind × ℕ)) (more : ℕ → Result (List Token) LexFault) → ((n : ℕ) → HasMemory (more n))
+    → HasMemory (lex_token most len count b bs found more)
+token_has most len count b bs None more has = tt
+token_has most len count b bs (Some t) more has =
     let token : Token = record { kind = t.0; start = place len (b ∷ bs); end = place len (b ∷ bs) + 1 + t.1 } in
-    by_test (count == max_tokens) (Err (lexed.TooManyTokens (place len (b ∷ bs)))) (with_first (token ∷ []) (more t.1)) tt (first_has (token ∷ []) (more t.1) (has t.1))
+    by_test (count == most) (Err (lexed.TooManyTokens (place len (b ∷ bs)))) (with_first (token ∷ []) (more t.1)) tt (first_has (token ∷ []) (more t.1) (has t.1))
 
-lex_has : (len count inside : ℕ) (comment : Bool) (bs : List ℕ) → HasMemory (lex len count inside comment bs)
-lex_has len count zero comment [] = tt
-lex_has len count (suc n) comment [] = tt
-lex_has len count (suc n) comment (b ∷ bs) = lex_has len count n comment bs
-lex_has len count zero true (b ∷ bs) = lex_has len count zero (not (b == 10)) bs
-lex_has len count zero false (b ∷ bs) =
-    let more : ℕ → Result (List Token) LexFault = λ n. lex len (count + 1) n false bs in
-    let token = lex_token len count b bs (token_at b bs) more in
-    by_test (is_blank b) (lex len count zero false bs) (if b == 35 then lex len count zero true bs else token) (lex_has len count zero false bs)
-    (by_test (b == 35) (lex len count zero true bs) token (lex_has len count zero true bs) (token_has len count b bs (token_at b bs) more (λ n. lex_has len (count + 1) n false bs)))
+lex_has : (most len count inside : ℕ) (comment : Bool) (bs : List ℕ) → HasMemory (lex most len count inside comment bs)
+lex_has most len count zero comment [] = tt
+lex_has most len count (suc n) comment [] = tt
+lex_has most len count (suc n) comment (b ∷ bs) = lex_has most len count n comment bs
+lex_has most len count zero true (b ∷ bs) = lex_has most len count zero (not (b == 10)) bs
+lex_has most len count zero false (b ∷ bs) =
+    let more : ℕ → Result (List Token) LexFault = λ n. lex most len (count + 1) n false bs in
+    let token = lex_token most len count b bs (token_at b bs) more in
+    by_test (is_blank b) (lex most len count zero false bs) (if b == 35 then lex most len count zero true bs else token) (lex_has most len count zero false bs)
+    (by_test (b == 35) (lex most len count zero true bs) token (lex_has most len count zero true bs) (token_has most len count b bs (token_at b bs) more (λ n. lex_has most len (count + 1) n false bs)))
 
 tokens_have : (text : List ℕ) → HasMemory (tokens_of text)
 unfolding tokens_of
-tokens_have text = lex_has _ _ _ false text
+tokens_have text = lex_has _ _ _ _ false text
 
 -- ---- charts
 

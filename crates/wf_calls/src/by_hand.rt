@@ -63,11 +63,20 @@ fn fault_line(alloc: Global, chart: &Chart) -> Result<Bytes, Fail> {
 fn rules_that_no_text_breaks(rt: HostRuntime) -> Result<(), Fail> {
     let rows = [
         (Change::Transition(1), ""),
-        (Change::Transition(3), "refused check bad id transitions 0\n"),
+        (
+            Change::Transition(3),
+            "refused check bad id transitions 0\n",
+        ),
         (Change::State(b"last", 0), ""),
         (Change::State(b"last", 1), "refused check bad id states 3\n"),
-        (Change::State(b"here", 0), "refused check bad name states 3\n"),
-        (Change::State(b"7up", 0), "refused check bad name states 3\n"),
+        (
+            Change::State(b"here", 0),
+            "refused check bad name states 3\n",
+        ),
+        (
+            Change::State(b"7up", 0),
+            "refused check bad name states 3\n",
+        ),
         (Change::Event(0), ""),
         (Change::Event(1), "refused check bad id events 1\n"),
         (Change::NoEvents, "refused check bad id events 0\n"),

@@ -1,7 +1,10 @@
 //! Copies and comparisons of the types that every crate speaks of.
 use std::alloc::Global;
 use std::test::Fail;
-use wf_model::{ActId, Component, Duplicate, Entry, EventId, Flat, List, Name, NoMemory, Outer, Output, Same, StartAt, StateId, TransId, Txt, UnitId, UnitSet, Update, Val, VarId, Write};
+use wf_model::{
+    ActId, Duplicate, Entry, EventId, List, Name, NoMemory, Outer, Output, Same, StartAt, StateId,
+    TransId, Txt, UnitId, UnitSet, Update, Val, VarId, Write,
+};
 use wf_text::read_chart;
 
 /// A chart with all kinds of parts.
@@ -60,15 +63,6 @@ fn update(alloc: Global) -> Result<Update, NoMemory> {
     })
 }
 
-fn component(alloc: Global) -> Result<Component, NoMemory> {
-    Ok(Component {
-        state: StateId(0),
-        first: true,
-        enter: one(alloc, TransId(0))?,
-        leave: one(alloc, TransId(1))?,
-    })
-}
-
 #[test]
 fn charts(rt: HostRuntime) -> Result<(), Fail> {
     let alloc = rt.alloc();
@@ -89,11 +83,6 @@ fn updates(rt: HostRuntime) -> Result<(), Fail> {
         outer: completion(alloc)?,
     };
     assert!(rt; is_copied(alloc, &entry)?);
-    let flat = Flat {
-        components: one(alloc, component(alloc)?)?,
-        blockers: one(alloc, List::new(alloc))?,
-    };
-    assert!(rt; is_copied(alloc, &flat)?);
     assert!(rt; UnitSet(2).is_same(&UnitSet(2)));
     Ok(())
 }

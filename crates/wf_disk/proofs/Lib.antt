@@ -2,3 +2,4 @@ pub mod Runs
 mod Replays
 mod Tells
 mod Sound
+mod Plans

@@ -1,5 +1,5 @@
 -- How a run of disk calls goes on.
-use Rattle.std.proofs.Common.{◌≡◌, inl, inr, ⊎_elim, ℕ, ◌+◌, ◌≤◌, List, Option, Some, None, IfSome, refl, ◌∙◌, subst, arith}
+use Rattle.std.proofs.Common.{◌≡◌, inl, inr, ⊎_elim, ℕ, ◌+◌, List, Option, Some, None, IfSome, refl, ◌∙◌, subst, arith}
 use Rattle.wf_disk.specs.Disk.{Told, IsSame, Elapses, IsLawful, LeavesOnly, HasCause, KeepsPlan, IsSafeFor}
 
 -- before the first call
@@ -46,8 +46,19 @@ if_some (Some x) P all = all x refl
 pub from_some : {X : Type 0} → (o : Option X) (P : X → Type 0) (x : X) → IfSome o P → o ≡ Some x → P x
 from_some {X = X} o P x has is = subst (λ (v : Option X). IfSome v P) is has
 
+pub plan_same : (disk : Told) → KeepsPlan disk disk
+plan_same disk = record { kept = λ n fails. fails; no_other = λ n fails. fails; stops_kept = λ n stops. stops; no_other_stop = λ n stops. stops }
+
+pub plan_then : (old mid new : Told) → KeepsPlan old mid → KeepsPlan mid new → KeepsPlan old new
+plan_then old mid new first second = record {
+  kept = λ n fails. second.kept n (first.kept n fails);
+  no_other = λ n fails. first.no_other n (second.no_other n fails);
+  stops_kept = λ n stops. second.stops_kept n (first.stops_kept n stops);
+  no_other_stop = λ n stops. first.no_other_stop n (second.no_other_stop n stops);
+}
+
 pub same_first : (disk : Told) → IsSame disk disk
-same_first disk = record { image = refl; clock = refl; moment = refl; crash = λ c now. now; crash_kept = λ c now. now; past = λ t c left. left; past_kept = λ t c left. left; plan = record { kept = λ n fails. fails; no_other = λ n fails. fails }; room = λ writes bytes room. room }
+same_first disk = record { image = refl; clock = refl; moment = refl; crash = λ c now. now; crash_kept = λ c now. now; past = λ t c left. left; past_kept = λ t c left. left; plan = plan_same disk; room = λ writes bytes room. room }
 
 pub same_then : (old mid new : Told) → IsSame old mid → IsSame mid new → IsSame old new
 same_then old mid new first second = record {
@@ -58,19 +69,20 @@ same_then old mid new first second = record {
   crash_kept = λ c now. second.crash_kept c (first.crash_kept c now);
   past = λ t c left. first.past t c (second.past t c left);
   past_kept = λ t c left. second.past_kept t c (first.past_kept t c left);
-  plan = record {
-    kept = λ n fails. second.plan.kept n (first.plan.kept n fails);
-    no_other = λ n fails. first.plan.no_other n (second.plan.no_other n fails);
-  };
+  plan = plan_then old mid new first.plan second.plan;
   room = λ writes bytes room. second.room writes bytes (first.room writes bytes room);
 }
 
 -- a cause found late is a cause since an earlier moment
-pub cause_since : (old mid new : Told) (F G : Type 0) → old.faults ≤ mid.faults → HasCause mid new F → (G → F) → HasCause old new G
-cause_since old mid new F G later cause from = record { later = omega (arith, later, cause.later); rose = λ failure. let r = cause.rose (from failure) in omega (arith, later, r) }
+pub cause_since : (old mid new : Told) (F G : Type 0) → mid.faults ≡ old.faults → HasCause mid new F → (G → F) → (F → G) → HasCause old new G
+cause_since old mid new F G same cause from to = record {
+  later = omega (arith, same, cause.later);
+  rose = λ failure. let r = cause.rose (from failure) in omega (arith, same, r);
+  kept = λ none. cause.kept (λ failure. none (to failure)) ∙ same;
+}
 
-pub cause_none : (old new : Told) (G : Type 0) → old.faults ≤ new.faults → (G → ⊥) → HasCause old new G
-cause_none old new G later none = record { later = later; rose = λ failure. absurd (none failure) }
+pub cause_none : (old new : Told) (G : Type 0) → new.faults ≡ old.faults → (G → ⊥) → HasCause old new G
+cause_none old new G same none = record { later = omega (arith, same); rose = λ failure. absurd (none failure); kept = λ _. same }
 
 -- the next of these strokes doesn't fail, and the rest don't after it
 pub safe_now : (disk : Told) (strokes : ℕ) → IsSafeFor disk (strokes + 1) → disk.is_to_fail (disk.clock + 1) → ⊥

@@ -1,5 +1,5 @@
 -- What an armed disk does at a stroke.
-use Rattle.std.specs.Prelude.{ℕ, ◌+◌, ◌==◌, Bool, if◌then◌else◌, Option, None, Some}
+use Rattle.std.specs.Prelude.{ℕ, ◌+◌, ◌==◌, Bool, true, false, if◌then◌else◌, Option, None, Some}
 use Rattle.wf_disk.specs.declared.arm.Arm.{Arm}
 use Rattle.wf_disk.specs.declared.arm.Arm.TheVariants.{Fail, Crash}
 use Rattle.wf_disk.specs.declared.arm.Armed.{Armed}
@@ -19,3 +19,9 @@ fate_by (Crash outcome) = fate.Stops outcome
 abbrev pub fate_at : Option Armed → ℕ → Fate
 fate_at None n = fate.Done
 fate_at (Some arm) n = if is_counted arm n then fate_by arm.what else fate.Done
+
+-- this fate stops a disk
+abbrev pub is_stop : Fate → Bool
+is_stop fate.Done = false
+is_stop fate.Fails = false
+is_stop (fate.Stops outcome) = true

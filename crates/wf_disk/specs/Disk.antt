@@ -17,6 +17,8 @@ pub record Told : Type 1 where
   pub left_since : ℕ → List ℕ → Type 0
   -- whether the stroke that moves the clock to this number is to fail
   pub is_to_fail : ℕ → Type 0
+  -- whether it is to leave the disk stopped as it fails
+  pub is_to_stop : ℕ → Type 0
   -- whether so many writes, of so many bytes in all, want no memory
   pub has_room : ℕ → ℕ → Type 0
 
@@ -43,14 +45,20 @@ Within new old = (c : List ℕ) → new c → old c
 abbrev pub Only : List ℕ → (List ℕ → Type 0) → Type 0
 Only file outcomes = (c : List ℕ) → outcomes c → c ≡ file
 
--- the same strokes are to fail
+-- the same strokes are to fail, and of these the same are to stop the disk
 pub record KeepsPlan (old new : Told) : Type 0 where
   pub kept : (n : ℕ) → old.is_to_fail n → new.is_to_fail n
   pub no_other : (n : ℕ) → new.is_to_fail n → old.is_to_fail n
+  pub stops_kept : (n : ℕ) → old.is_to_stop n → new.is_to_stop n
+  pub no_other_stop : (n : ℕ) → new.is_to_stop n → old.is_to_stop n
 
 -- every stroke from now on is to fail
 abbrev pub IsDown : Told → Type 0
 IsDown disk = (n : ℕ) → disk.clock < n → disk.is_to_fail n
+
+-- A stroke of this number failed. If it isn't to stop the disk the plan is kept, and if it is the disk is down.
+abbrev pub GoesOnOrStops : Told → Told → ℕ → Type 0
+GoesOnOrStops old new n = ((old.is_to_stop n → ⊥) × KeepsPlan old new) ⊎ (old.is_to_stop n × IsDown new)
 
 -- none of the next strokes, so many of them, is to fail
 abbrev pub IsSafeFor : Told → ℕ → Type 0
@@ -87,21 +95,22 @@ pub record Strikes (old new : Told) (at_ok at_failure : Type 0) : Type 0 where
   pub done : at_ok → new.clock ≡ old.clock + 1
   pub failed : at_failure → (new.clock ≡ old.clock + 1) ⊎ (StandsAtEnd old new × Within new.may_leave old.may_leave)
 
--- Which strokes fail: those that are to, where the disk tells its image. A failure may take the disk down.
+-- Which strokes fail: those that are to, if the disk tells its image.
 pub record GoesToPlan (old new : Told) (at_ok at_failure : Type 0) : Type 0 where
   pub done : at_ok → (file : List ℕ) → old.image ≡ Some file → old.is_to_fail (old.clock + 1) → ⊥
   pub kept : at_ok → KeepsPlan old new
   pub failed : at_failure → old.is_to_fail (old.clock + 1)
-  pub kept_or_down : at_failure → KeepsPlan old new ⊎ IsDown new
+  pub goes_on_or_stops : at_failure → GoesOnOrStops old new (old.clock + 1)
 
 -- a count that rose, or stands at its end
 abbrev pub Rose : ℕ → ℕ → Type 0
 Rose before now = min (before + 1) last_count ≤ now
 
--- the count of faults doesn't fall, and a failure has its cause
+-- the count of faults doesn't fall, a failure comes only if it rose, and no other answer passes a fault over
 pub record HasCause (old new : Told) (failure : Type 0) : Type 0 where
   pub later : old.faults ≤ new.faults
   pub rose : failure → Rose old.faults new.faults
+  pub kept : (failure → ⊥) → new.faults ≡ old.faults
 
 -- what holds of a disk at any moment
 pub record IsLawful (disk : Told) : Type 0 where

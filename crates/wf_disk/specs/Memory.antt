@@ -2,7 +2,7 @@
 use Rattle.std.specs.Prelude.{◌≡◌, ◌≢◌, ℕ, ◌+◌, ◌≤◌, min, Bool, true, ◌||◌, ◌==◌, nat_lt, if◌then◌else◌, List, [], ◌∷◌, ◌++◌, length, drop, Option, None, Some, is_some, unwrap_or}
 use Rattle.wf_disk.specs.Disk.{Told, Only, last_count}
 use Rattle.wf_disk.specs.Strokes.{Stroke, State, Outcome, Since, image_after, left_after, are_fit, are_writes, first_state, state_after}
-use Rattle.wf_disk.specs.Arms.{fate_at}
+use Rattle.wf_disk.specs.Arms.{fate_at, is_stop}
 use Rattle.wf_disk.specs.declared.arm.Arm.{Arm}
 use Rattle.wf_disk.specs.declared.arm.Armed.{Armed}
 use Rattle.wf_disk.specs.declared.arm.Fate.{Fate}
@@ -75,6 +75,10 @@ is_stopped_for m n = is_some m.stop || nat_lt last_count n
 abbrev pub fate_for : Held → ℕ → Fate
 fate_for m n = if is_stopped_for m n then fate.Fails else fate_at m.arm n
 
+-- whether the stroke that moves the clock to n leaves it stopped
+abbrev pub is_stopped_after : Held → ℕ → Bool
+is_stopped_after m n = is_stopped_for m n || is_stop (fate_at m.arm n)
+
 -- whether it has stopped now
 abbrev pub has_stopped : Held → Bool
 has_stopped m = is_stopped_for m (m.clock + 1)
@@ -139,6 +143,7 @@ told_of m = record {
   may_leave = Outcome (state_of m);
   left_since = λ t c. Since (first_state m.first) t m.strokes c;
   is_to_fail = λ n. fate_for m n ≢ fate.Done;
+  is_to_stop = λ n. is_stopped_after m n ≡ true;
   has_room = λ writes bytes. (writes ≤ m.writes) × (bytes ≤ m.room);
 }
 

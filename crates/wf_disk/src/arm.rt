@@ -3,7 +3,7 @@ ghost use Rattle.std.specs.Prelude.{◌≡◌, ◌+◌, ◌==◌, Option};
 ghost use Rattle.wf_disk.specs.Arms.{is_counted, fate_at, fate_by};
 
 /// What a crash does to what wasn't synced.
-#[derive(Clone, Copy, Debug, PartialEq, Eq)]
+#[derive(Clone, Copy)]
 pub enum Outcome {
     /// What was written stays.
     Keep,
@@ -14,7 +14,7 @@ pub enum Outcome {
 }
 
 /// What the counted stroke does.
-#[derive(Clone, Copy, Debug, PartialEq, Eq)]
+#[derive(Clone, Copy)]
 pub enum Arm {
     /// It fails, and leaves the bytes as they were.
     Fail,
@@ -23,7 +23,7 @@ pub enum Arm {
 }
 
 /// An arm that was set: which stroke is the counted one, and what it does.
-#[derive(Clone, Copy, Debug, PartialEq, Eq)]
+#[derive(Clone, Copy)]
 pub struct Armed {
     /// The clock as the arm was set.
     pub after: u64,
@@ -34,7 +34,7 @@ pub struct Armed {
 }
 
 /// What a stroke does.
-#[derive(Clone, Copy, Debug, PartialEq, Eq)]
+#[derive(Clone, Copy)]
 pub enum Fate {
     /// It is done.
     Done,

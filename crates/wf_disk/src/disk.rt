@@ -7,7 +7,7 @@ use thiserror::Error;
 use wf_model::Failed;
 
 /// Why a disk writes nothing, or not all.
-#[derive(Clone, Copy, Debug, PartialEq, Eq, Error)]
+#[derive(Clone, Copy, Debug, Error)]
 pub enum WriteRefused {
     /// The disk failed. Its count of faults rose, and what was to be written may stand or not.
     #[error("the disk failed")]

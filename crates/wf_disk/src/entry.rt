@@ -6,7 +6,7 @@ ghost use Rattle.wf_disk.specs.Entries.{total, strokes_of, ranges_in};
 use crate::image::{fill_over, put_over};
 
 /// A stroke that was done. The bytes of all writes stand in one buffer, in order.
-#[derive(Clone, Copy, Debug)]
+#[derive(Clone, Copy)]
 pub enum Entry {
     /// A write of so many bytes at this place.
     Wrote { at: u64, len: usize },

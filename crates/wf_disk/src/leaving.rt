@@ -34,6 +34,7 @@ pub fn leave(outcome: Outcome, first: &[u8], history: &Record, image: &mut Vec<u
     requires fit { are_fit (length first.now) (length image.old.items) history.now.strokes ≡ true }
     ensures image { image.new.items ≡ left_after outcome first.now history.now.strokes history.now.synced }
     ensures size { length image.new.items ≤ length image.old.items }
+    ensures capacity { vec_capacity image.old ≤ vec_capacity image.new }
 {
     match outcome {
         Outcome::Keep => {}

@@ -10,8 +10,6 @@ mod leaving;
 mod memory;
 mod record;
 mod shelf;
-#[cfg(test)]
-mod tests;
 
 pub use arm::{Arm, Outcome};
 pub use disk::{Disk, WriteRefused};

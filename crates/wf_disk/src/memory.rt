@@ -96,15 +96,17 @@ impl MemDisk {
     pub fn stopped(&self) -> bool
         ensures stopped { result ≡ has_stopped self.now }
         ensures early { result ≡ false → self.now.clock < last_count }
+        ensures down { self.now.clock + 2 ≤ last_count → ((result ≡ true) ↔ IsDown (told_of self.now)) }
     {
         self.stop.is_some() || self.clock == u64::MAX
     }
 
-    /// Leaves the bytes by an outcome, as a crash does, and begins the record anew. The arm stays, and so does a stop.
-    /// It takes no memory. In linear time in the disk's bytes, all of which it copies, in the strokes since the record
-    /// began and in what they wrote.
+    /// Leaves the bytes by an outcome, as a crash does, and begins the record anew. The arm stays, and so do a stop and
+    /// the room for writes. It takes no memory. In linear time in the disk's bytes, all of which it copies, in the
+    /// strokes since the record began and in what they wrote.
     pub fn crash(&mut self, outcome: Outcome)
         ensures left { IsButForRoom (begun_anew self.old (left_by outcome self.old)) self.new }
+        ensures room { KeepsRoom self.old self.new 0 0 }
         ensures may { (told_of self.old).may_leave (image_of self.new) }
     {
         leave(outcome, &self.first, &self.history, &mut self.image);
@@ -116,6 +118,7 @@ impl MemDisk {
     /// record begins anew. In linear time, as `crash`.
     pub fn revive(&mut self)
         ensures left { IsButForRoom (revived self.old) self.new }
+        ensures room { KeepsRoom self.old self.new 0 0 }
         ensures may { (told_of self.old).may_leave (image_of self.new) }
     {
         let outcome = self.stop.unwrap_or(Outcome::Keep);
@@ -124,11 +127,13 @@ impl MemDisk {
     }
 
     /// Makes room: the next `writes` writes want no memory as long as they have at most `bytes` bytes in all. After a
-    /// refusal there is at least the room that there was. It may copy all that the disk and its record hold.
+    /// refusal there is at least the room that there was. With room already it takes no memory; else it may copy all that
+    /// the disk and its record hold.
     pub fn reserve(&mut self, bytes: u64, writes: u32) -> Result<(), NoMemory>
         ensures same { IsButForRoom self.old self.new }
         ensures room { OnOk result ((told_of self.new).has_room writes bytes) }
         ensures kept { KeepsRoom self.old self.new 0 0 }
+        ensures succeeds { (told_of self.old).has_room writes bytes → IsOk result }
     {
         self.make_room(bytes as usize, writes)?;
         Ok(())

@@ -66,6 +66,3 @@ pub trait DiskShelf {
         ensures cause { ShelfHasCause (told self.old) (told self.new) (IsErr result) }
         ensures takes_in { 0 < (Self.Disk.told disk).faults → Rose (told self.old).faults (told self.new).faults };
 }
-
-#[cfg(test)]
-mod tests;

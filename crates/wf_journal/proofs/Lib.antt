@@ -6,3 +6,7 @@ mod Starts
 mod Refusals
 mod StepLaws
 mod Spelled
+pub mod Plans
+mod Walks
+mod StartPlans
+pub mod Answered

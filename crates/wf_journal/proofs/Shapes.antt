@@ -1,11 +1,12 @@
 -- What a journal's file is before, between and after the strokes of an append.
-use Rattle.std.proofs.Common.{◌≡◌, inl, inr, ℕ, suc, ◌+◌, ◌≤◌, ◌<◌, true, false, ◌==◌, List, [], ◌∷◌, ◌++◌, length, take, drop, get_or, refl, sym, ◌∙◌, ap, subst, arith, length-append, length-take-le, take-append-drop, rules}
-use Rattle.std.proofs.lemmas.List.{take_at, drop_more, append-nil}
+use Rattle.std.proofs.Common.{◌≡◌, inl, inr, ℕ, suc, ◌+◌, ◌≤◌, ◌<◌, true, false, ◌==◌, List, [], ◌∷◌, ◌++◌, length, take, get_or, refl, sym, ◌∙◌, ap, subst, arith, length-append, length-take-le, rules}
+use Rattle.std.proofs.lemmas.List.{take_at, append-nil}
 use Rattle.std.proofs.lemmas.Bool.{cond-true}
 use Rattle.std.proofs.lemmas.Nat.{from_be_bytes-to_be_bytes_4}
 use Rattle.std.specs.Int.{w32, to_be_bytes, from_be_bytes}
 use Rattle.wf_model.specs.Limits.{max_body}
-use Rattle.wf_journal.specs.Frames.{packed, fits, bodies_after, end_after, breaks_after, bodies_of, end_of, is_broken, IsAtRest, IsAsBefore, IsBeforeOrAfter}
+use Rattle.wf_journal.specs.Frames.{packed, fits, end_after, breaks_after, bodies_of, end_of, is_broken, IsAtRest, IsAsBefore, IsBeforeOrAfter}
+use Rattle.wf_journal.proofs.Walks.{bodies_after, bodies_of-walk}
 use Rattle.wf_journal.proofs.Cuts.{Cut, cut, bodies-closed, end-closed, breaks-closed}
 
 bodies-skip : (xs ys : List ℕ) → bodies_after (length xs) (xs ++ ys) ≡ bodies_after 0 ys
@@ -72,8 +73,10 @@ module _ (file : List ℕ) (place : ℕ) (rests : IsAtRest file place) where
   cut_here g tail = cut 0 file g tail rests.whole (omega (arith, rests.end, rests.within))
 
   cut_bodies : (g : ℕ) (tail : List ℕ) → bodies_of (front ++ g ∷ tail) ≡ bodies_of file ++ bodies_after 0 (g ∷ tail)
-  unfolding bodies_of end_of
-  cut_bodies g tail = subst (λ k. bodies_after 0 (take k file ++ g ∷ tail) ≡ bodies_after 0 file ++ bodies_after 0 (g ∷ tail)) rests.end (cut_here g tail).bodies
+  unfolding end_of
+  cut_bodies g tail =
+      bodies_of-walk (front ++ g ∷ tail) ∙ subst (λ k. bodies_after 0 (take k file ++ g ∷ tail) ≡ bodies_after 0 file ++ bodies_after 0 (g ∷ tail)) rests.end (cut_here g tail).bodies
+      ∙ ap (λ l. l ++ bodies_after 0 (g ∷ tail)) (sym (bodies_of-walk file))
 
   cut_end : (g : ℕ) (tail : List ℕ) → end_of (front ++ g ∷ tail) ≡ place + end_after 0 (g ∷ tail)
   unfolding end_of
@@ -92,9 +95,6 @@ module _ (file : List ℕ) (place : ℕ) (rests : IsAtRest file place) where
 
   length-cut : (g : ℕ) (tail : List ℕ) → place < length (front ++ g ∷ tail)
   length-cut g tail = omega (arith, length-append front (g ∷ tail), length-front)
-
-  pub whole_file : file ≡ front ++ gate ∷ drop (place + 1) file
-  whole_file = sym (take-append-drop place file) ∙ ap (λ l. front ++ l) (drop_more file place 1 rests.within)
 
   -- behind a closed gate there may be anything
   pub closed_rests : (g : ℕ) (tail : List ℕ) → (g == 1) ≡ false → IsAtRest (front ++ g ∷ tail) place

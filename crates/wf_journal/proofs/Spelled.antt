@@ -1,13 +1,13 @@
 -- A journal's bytes are the frames of its bodies, and the other way round.
-use Rattle.std.proofs.Common.{◌≡◌, ◌≢◌, ℕ, zero, suc, ◌≤◌, ◌<◌, Bool, true, false, ◌&&◌, ◌==◌, nat_le, cond, List, [], ◌∷◌, ◌++◌, All, length, take, get_or, refl, sym, ◌∙◌, ap, arith, rules, length-append, length-take-le, append_assoc}
+use Rattle.std.proofs.Common.{◌≡◌, ◌≢◌, ℕ, zero, suc, ◌≤◌, ◌<◌, Bool, true, false, ◌&&◌, ◌==◌, nat_le, cond, List, [], ◌∷◌, ◌++◌, All, length, take, get_or, refl, sym, ◌∙◌, ap, subst, arith, rules, length-append, length-take-le, append_assoc}
 use Rattle.std.proofs.lemmas.Bool.{and_parts}
 use Rattle.std.proofs.lemmas.List.Elements.{All-nil, All-head, All-tail, All-cons}
 use Rattle.std.proofs.lemmas.Nat.{be_bytes_4}
 use Rattle.std.specs.Int.{w32, to_be_bytes}
 use Rattle.wf_model.specs.Limits.{max_body}
-use Rattle.wf_journal.specs.declared.frame.TheConstants.{OPEN}
-use Rattle.wf_journal.specs.Frames.{number_of, packed, fits, bodies_after, end_after, breaks_after, bodies_of, end_of, is_broken, IsAtRest}
+use Rattle.wf_journal.specs.Frames.{open_gate, number_of, packed, fits, end_after, breaks_after, bodies_of, end_of, is_broken, IsAtRest}
 use Rattle.wf_journal.specs.Laws.{IsBody, frame_of, frames_of, AreBytes}
+use Rattle.wf_journal.proofs.Walks.{bodies_after, bodies_of-walk}
 use Rattle.wf_journal.proofs.Cuts.{bodies-closed, end-closed, breaks-closed, fits-inside}
 use Rattle.wf_journal.proofs.Shapes.{bodies-front, end-front, breaks-front, shut}
 
@@ -34,14 +34,13 @@ spells (body ∷ bodies) gate tail are shut =
       whole = ap (breaks_after 0) shape ∙ breaks-front body is.some is.most rest some ∙ more.whole;
     }
 
-isnt_open : (gate : ℕ) → gate ≢ OPEN → (gate == 1) ≡ false
+isnt_open : (gate : ℕ) → gate ≢ open_gate → (gate == 1) ≡ false
 isnt_open gate isnt = search (rules, isnt)
 
-pub frames_bodies : (bodies : List (List ℕ)) (gate : ℕ) (tail : List ℕ) → All IsBody bodies → gate ≢ OPEN → bodies_of (frames_of bodies ++ gate ∷ tail) ≡ bodies
-unfolding bodies_of
-frames_bodies bodies gate tail are isnt = let s = spells bodies gate tail are (isnt_open gate isnt) in s.has
+pub frames_bodies : (bodies : List (List ℕ)) (gate : ℕ) (tail : List ℕ) → All IsBody bodies → gate ≢ open_gate → bodies_of (frames_of bodies ++ gate ∷ tail) ≡ bodies
+frames_bodies bodies gate tail are isnt = let s = spells bodies gate tail are (isnt_open gate isnt) in bodies_of-walk (frames_of bodies ++ gate ∷ tail) ∙ s.has
 
-pub frames_rest : (bodies : List (List ℕ)) (gate : ℕ) (tail : List ℕ) → All IsBody bodies → gate ≢ OPEN → IsAtRest (frames_of bodies ++ gate ∷ tail) (length (frames_of bodies))
+pub frames_rest : (bodies : List (List ℕ)) (gate : ℕ) (tail : List ℕ) → All IsBody bodies → gate ≢ open_gate → IsAtRest (frames_of bodies ++ gate ∷ tail) (length (frames_of bodies))
 unfolding is_broken end_of
 frames_rest bodies gate tail are isnt =
     let s = spells bodies gate tail are (isnt_open gate isnt) in
@@ -77,8 +76,7 @@ are_bodies zero (gate ∷ a ∷ b ∷ c ∷ d ∷ rest) = go (gate == 1) (fits (
     go false f fit more = All-nil IsBody
 
 pub bodies_are : (file : List ℕ) → All IsBody (bodies_of file)
-unfolding bodies_of
-bodies_are file = are_bodies 0 file
+bodies_are file = subst (All IsBody) (sym (bodies_of-walk file)) (are_bodies 0 file)
 
 -- the numbers of a list with one more in front
 bytes_behind : (byte : ℕ) (file : List ℕ) → AreBytes (byte ∷ file) → AreBytes file
@@ -128,8 +126,8 @@ front zero (gate ∷ a ∷ b ∷ c ∷ d ∷ rest) le are = go (gate == 1) refl 
     go false is f fit more = refl
 
 pub front_frames : (file : List ℕ) (place : ℕ) → AreBytes file → IsAtRest file place → take place file ≡ frames_of (bodies_of file)
-unfolding bodies_of end_of
-front_frames file place are rests = ap (λ k. take k file) (sym rests.end) ∙ front 0 file (omega arith) are
+unfolding end_of
+front_frames file place are rests = ap (λ k. take k file) (sym rests.end) ∙ front 0 file (omega arith) are ∙ ap frames_of (sym (bodies_of-walk file))
 
-pub gate_shut : (file : List ℕ) (place : ℕ) → IsAtRest file place → get_or file place OPEN ≢ OPEN
+pub gate_shut : (file : List ℕ) (place : ℕ) → IsAtRest file place → get_or file place open_gate ≢ open_gate
 gate_shut file place rests = let is : (get_or file place 1 == 1) ≡ false = shut file place rests in search (rules, is)

@@ -5,11 +5,11 @@ use Rattle.wf_disk.specs.Disk.{Told, put_at, Torn, Follows, Within, Only, IsSame
 use Rattle.wf_disk.proofs.Runs.{started, goes_on, from_some}
 use Rattle.wf_journal.specs.declared.fault.StartFault.{StartFault}
 use Rattle.wf_journal.specs.declared.fault.StartFault.TheVariants.{BadFrame}
-use Rattle.wf_journal.specs.Frames.{bodies_of, end_of, is_broken, can_start, IsAtRest}
+use Rattle.wf_journal.specs.Frames.{frames_at, bodies_of, end_of, is_broken, can_start, IsAtRest}
 use Rattle.wf_journal.specs.Journal.{IsLeftAs, IsLeft, HasBodiesOf, KeepsBodies, IsPlace}
 
 pub short_bodies : (c : List ℕ) → length c ≤ 1 → bodies_of c ≡ []
-unfolding bodies_of
+unfolding bodies_of frames_at
 short_bodies [] short = refl
 short_bodies (a ∷ []) short = refl
 short_bodies (a ∷ b ∷ c) short = absurd (omega arith)
@@ -71,7 +71,7 @@ unfolding is_broken end_of
 one_gate = record { whole = refl; end = refl; within = omega arith }
 
 one_gate_bodies : bodies_of (0 ∷ []) ≡ []
-unfolding bodies_of
+unfolding bodies_of frames_at
 one_gate_bodies = refl
 
 -- a bad frame, as the walk found it, is one of the file as it was at first
@@ -107,6 +107,11 @@ module _ (t0 : Told) (file : List ℕ) (law : IsLawful t0) (is : t0.image ≡ So
 
     pub written_synced : (t4 : Told) → Within t4.may_leave t3.may_leave → Elapses t3 t4 → LeavesOnly t0 t4 P
     written_synced t4 within4 time4 = goes_on t0 t3 t4 P written time4 (λ c now. after_write c (within4 c now))
+
+  pub made_new : (t2 t3 t4 : Told) → length file ≤ 1 → t2.image ≡ Some file → IfSome t2.image (λ f. t3.image ≡ Some (put_at f 0 (0 ∷ []))) → t4.image ≡ t3.image → t4.image ≡ Some (0 ∷ [])
+  made_new t2 t3 t4 short image2 write image4 =
+      let rest : drop (0 + 1) file ≡ [] = drop_all 1 file short in
+      image4 ∙ from_some t2.image (λ f. t3.image ≡ Some (put_at f 0 (0 ∷ []))) file write image2 ∙ ap (λ l. Some (0 ∷ l)) rest
 
   pub left_new : (t2 t3 t4 : Told) → length file ≤ 1 → t2.image ≡ Some file → IfSome t2.image (λ f. t3.image ≡ Some (put_at f 0 (0 ∷ []))) → t4.image ≡ t3.image → IfSome t3.image (λ f. Only f t4.may_leave)
       → (x : List ℕ) × IsLeftAs file x t4 0 []

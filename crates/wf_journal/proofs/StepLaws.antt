@@ -5,7 +5,7 @@ use Rattle.std.proofs.lemmas.Bool.{cond-true, cond-false}
 use Rattle.std.specs.Int.{w32, from_be_bytes}
 use Rattle.wf_journal.specs.declared.steps.Step.{Step}
 use Rattle.wf_journal.specs.declared.steps.Step.TheVariants.{Closed, Broken, Next}
-use Rattle.wf_journal.specs.Frames.{number_of, fits, bodies_after, end_after, breaks_after, end_of, is_broken, IsAtRest}
+use Rattle.wf_journal.specs.Frames.{Frame, number_of, fits, frames_after, end_after, breaks_after, end_of, is_broken, IsAtRest}
 use Rattle.wf_journal.specs.Journal.{IsPlace}
 use Rattle.wf_journal.proofs.Cuts.{fits-inside}
 use Rattle.wf_journal.specs.StepAt.{step_of, fits_in}
@@ -134,41 +134,46 @@ walked_next file at step next so_far within is goes =
       breaks = so_far.breaks ∙ here.4 ∙ ap (breaks_after 0) same;
     }
 
--- the body of a frame, as the walk sees it
-bodies-drop : (n : ℕ) (xs : List ℕ) → n ≤ length xs → bodies_after n xs ≡ bodies_after 0 (drop n xs)
-bodies-drop zero xs le = refl
-bodies-drop (suc n) [] le = absurd (omega arith)
-bodies-drop (suc n) (x ∷ xs) le = bodies-drop n xs (omega arith)
+-- a frame, as the walk sees it
+abbrev frame : ℕ → List ℕ → Frame
+frame at body = record { place = at; body = body }
+
+frames-drop : (at n : ℕ) (xs : List ℕ) → n ≤ length xs → frames_after at n xs ≡ frames_after (at + n) 0 (drop n xs)
+frames-drop at zero xs le = ap (λ k. frames_after k 0 xs) (omega arith)
+frames-drop at (suc n) [] le = absurd (omega arith)
+frames-drop at (suc n) (x ∷ xs) le = frames-drop (at + 1) n xs (omega arith) ∙ ap (λ k. frames_after k 0 (drop n xs)) (omega arith)
 
 next_is : (at n next : ℕ) → Next (at + 5 + n) ≡ Next next → next ≡ at + 5 + n
 next_is at n next is = sym (cc is)
 
-pub step_body : (at : ℕ) (xs : List ℕ) (next : ℕ) → step_of at xs ≡ Next next → bodies_after 0 xs ≡ take (next - at - 5) (drop 5 xs) ∷ bodies_after 0 (drop (next - at) xs)
-step_body at [] next is = absurd (cc is)
-step_body at (g ∷ []) next is = absurd (not_next (g == 1) is)
+pub step_frame : (at : ℕ) (xs : List ℕ) (next : ℕ) → step_of at xs ≡ Next next
+    → frames_after at 0 xs ≡ record { place = at; body = take (next - at - 5) (drop 5 xs) } ∷ frames_after next 0 (drop (next - at) xs)
+step_frame at [] next is = absurd (cc is)
+step_frame at (g ∷ []) next is = absurd (not_next (g == 1) is)
   where
     not_next : (o : Bool) → cond o Broken Closed ≡ Next next → ⊥
     not_next true same = cc same
     not_next false same = cc same
-step_body at (g ∷ a ∷ []) next is = absurd (not_next (g == 1) is)
+step_frame at (g ∷ a ∷ []) next is = absurd (not_next (g == 1) is)
   where
     not_next : (o : Bool) → cond o Broken Closed ≡ Next next → ⊥
     not_next true same = cc same
     not_next false same = cc same
-step_body at (g ∷ a ∷ b ∷ []) next is = absurd (not_next (g == 1) is)
+step_frame at (g ∷ a ∷ b ∷ []) next is = absurd (not_next (g == 1) is)
   where
     not_next : (o : Bool) → cond o Broken Closed ≡ Next next → ⊥
     not_next true same = cc same
     not_next false same = cc same
-step_body at (g ∷ a ∷ b ∷ c ∷ []) next is = absurd (not_next (g == 1) is)
+step_frame at (g ∷ a ∷ b ∷ c ∷ []) next is = absurd (not_next (g == 1) is)
   where
     not_next : (o : Bool) → cond o Broken Closed ≡ Next next → ⊥
     not_next true same = cc same
     not_next false same = cc same
-step_body at (g ∷ a ∷ b ∷ c ∷ d ∷ rest) next is = go (g == 1) refl (fits (number_of a b c d) rest) refl is
+step_frame at (g ∷ a ∷ b ∷ c ∷ d ∷ rest) next is = go (g == 1) refl (fits (number_of a b c d) rest) refl is
   where
     go : (o : Bool) → (g == 1) ≡ o → (f : Bool) → fits (number_of a b c d) rest ≡ f → cond o (cond f (Next (at + 5 + number_of a b c d)) Broken) Closed ≡ Next next
-        → bodies_after 0 (g ∷ a ∷ b ∷ c ∷ d ∷ rest) ≡ take (next - at - 5) rest ∷ bodies_after 0 (drop (next - at) (g ∷ a ∷ b ∷ c ∷ d ∷ rest))
+        → frames_after at 0 (g ∷ a ∷ b ∷ c ∷ d ∷ rest)
+        ≡ record { place = at; body = take (next - at - 5) rest } ∷ frames_after next 0 (drop (next - at) (g ∷ a ∷ b ∷ c ∷ d ∷ rest))
     go true one true fit same =
         let n = number_of a b c d in
         let inside : n < length rest = fits-inside n rest fit in
@@ -176,8 +181,9 @@ step_body at (g ∷ a ∷ b ∷ c ∷ d ∷ rest) next is = go (g == 1) refl (fi
         let far : next ≡ at + 5 + n = next_is at n next same in
         let len : n ≡ next - at - 5 = omega (arith, far) in
         let jump : suc (suc (suc (suc (suc n)))) ≡ next - at = omega (arith, far) in
-        cond-true _ _ _ (ap (λ t. t && fits (number_of a b c d) rest) one ∙ fit) ∙ ap (λ k. take k rest ∷ bodies_after n rest) len
-        ∙ ap (λ l. take (next - at - 5) rest ∷ l) (bodies-drop n rest le ∙ ap (λ k. bodies_after 0 (drop k (g ∷ a ∷ b ∷ c ∷ d ∷ rest))) jump)
+        cond-true _ _ _ (ap (λ t. t && fits (number_of a b c d) rest) one ∙ fit) ∙ ap (λ k. frame at (take k rest) ∷ frames_after (at + 5) n rest) len
+        ∙ ap (λ l. frame at (take (next - at - 5) rest) ∷ l)
+        (frames-drop (at + 5) n rest le ∙ ap (λ k. frames_after k 0 (drop n rest)) (sym far) ∙ ap (λ k. frames_after next 0 (drop k (g ∷ a ∷ b ∷ c ∷ d ∷ rest))) jump)
     go true one false fit same = absurd (cc same)
     go false shut f fit same = absurd (cc same)
 
@@ -189,11 +195,10 @@ place_next file at next place is within =
     let same : drop n (drop at file) ≡ drop next file = drop-drop n at file ∙ ap (λ k. drop k file) (sym here.1) in
     record { end = place.end ∙ omega (arith, here.1, here.3, ap (end_after 0) same); whole = ap (breaks_after 0) (sym same) ∙ sym here.4 ∙ place.whole; within = within }
 
-pub body_at : (file bytes : List ℕ) (at next len : ℕ) → step_of at (drop at file) ≡ Next next → at + 5 < next → len ≡ next - at - 5 → bytes ≡ take len (drop (at + 5) file)
-    → bodies_after 0 (drop at file) ≡ bytes ∷ bodies_after 0 (drop next file)
-body_at file bytes at next len is far size read =
+pub frame_here : (file bytes : List ℕ) (at next len : ℕ) → step_of at (drop at file) ≡ Next next → at + 5 < next → len ≡ next - at - 5 → bytes ≡ take len (drop (at + 5) file)
+    → frames_after at 0 (drop at file) ≡ record { place = at; body = bytes } ∷ frames_after next 0 (drop next file)
+frame_here file bytes at next len is far size read =
     let jump : at + (next - at) ≡ next = omega (arith, far) in
-    step_body at (drop at file) next is ∙ ap (λ l. take (next - at - 5) l ∷ bodies_after 0 (drop (next - at) (drop at file))) (drop-drop 5 at file)
-    ∙ ap (λ k. take k (drop (at + 5) file) ∷ bodies_after 0 (drop (next - at) (drop at file))) (sym size)
-    ∙ ap (λ l. l ∷ bodies_after 0 (drop (next - at) (drop at file))) (sym read)
-    ∙ ap (λ l. bytes ∷ bodies_after 0 l) (drop-drop (next - at) at file ∙ ap (λ k. drop k file) jump)
+    let body : take (next - at - 5) (drop 5 (drop at file)) ≡ bytes = ap (take (next - at - 5)) (drop-drop 5 at file) ∙ ap (λ k. take k (drop (at + 5) file)) (sym size) ∙ sym read in
+    step_frame at (drop at file) next is ∙ ap (λ l. frame at l ∷ frames_after next 0 (drop (next - at) (drop at file))) body
+    ∙ ap (λ l. frame at bytes ∷ frames_after next 0 l) (drop-drop (next - at) at file ∙ ap (λ k. drop k file) jump)

@@ -1,6 +1,9 @@
+pub mod Append
 pub mod Faults
 pub mod Frames
 pub mod Journal
 pub mod Laws
+pub mod Plan
+pub mod Start
 pub mod State
 pub mod StepAt

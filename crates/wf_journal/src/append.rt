@@ -1,9 +1,10 @@
 //! The four strokes of an append.
-ghost use Rattle.std.specs.Prelude.{◌≡◌, ◌+◌, ◌≤◌, ◌<◌, ◌∷◌, [], ℕ, List, Some, OnOk, IsOk, IsErrOf, is_some, length, vec_capacity};
-ghost use Rattle.wf_disk.specs.Disk.{HasCause, IsSafeFor, LeavesOnly};
+ghost use Rattle.std.specs.Prelude.{◌≡◌, ◌+◌, ◌≤◌, ◌<◌, ◌∷◌, [], OnOk, IsOk, IsErrOf, is_some, length, vec_capacity};
+ghost use Rattle.wf_disk.specs.Disk.{HasCause, IsSafeFor};
 ghost use Rattle.wf_model.specs.Limits.{max_body, max_journal};
-ghost use Rattle.wf_journal.specs.declared.frame.TheConstants.{HEADER};
-ghost use Rattle.wf_journal.specs.Frames.{bodies_of, IsAsBefore, IsBeforeOrAfter};
+ghost use Rattle.wf_journal.specs.Append.{IsWritten, LeavesBeforeOrAfter, LeavesBefore};
+ghost use Rattle.wf_journal.specs.Plan.{MeetsPlan};
+ghost use Rattle.wf_journal.specs.Frames.{header};
 ghost use Rattle.wf_journal.specs.Journal.{IsSettled, IsLeft};
 
 use crate::frame::{OPEN, pack};
@@ -21,17 +22,20 @@ pub fn put<D: Disk>(
     requires fits { place + length body.now + 6 ≤ max_journal }
     requires settled { IsSettled (D.told disk.old) place }
 
-    ensures ok { OnOk result (IsLeft (D.told disk.old) (D.told disk.new) (place + (HEADER + length body.now)) (body.now ∷ [])) }
+    ensures ok { OnOk result
+        (IsLeft (D.told disk.old) (D.told disk.new) (place + (header + length body.now)) (body.now ∷ [])) }
+    ensures bytes { OnOk result (IsWritten (D.told disk.old) (D.told disk.new) place body.now) }
     ensures no_memory { IsErrOf result WriteRefused.NoMemory → IsLeft (D.told disk.old) (D.told disk.new) place [] }
-    ensures any_moment { (file : List ℕ) → (D.told disk.old).image ≡ Some file →
-        LeavesOnly (D.told disk.old) (D.told disk.new) (IsBeforeOrAfter (bodies_of file) body.now) }
-    ensures fewer { (file : List ℕ) → (D.told disk.old).image ≡ Some file → (D.told disk.new).clock < (D.told disk.old).clock + 3 →
-        LeavesOnly (D.told disk.old) (D.told disk.new) (IsAsBefore (bodies_of file)) }
+    ensures any_moment { LeavesBeforeOrAfter (D.told disk.old) (D.told disk.new) body.now }
+    ensures fewer { (D.told disk.new).clock < (D.told disk.old).clock + 3 → LeavesBefore (D.told disk.old) (D.told disk.new) }
     ensures tells { is_some (D.told disk.new).image ≡ is_some (D.told disk.old).image }
     ensures four { OnOk result ((D.told disk.new).clock ≡ (D.told disk.old).clock + 4) }
     ensures two { IsErrOf result WriteRefused.NoMemory → (D.told disk.new).clock ≤ (D.told disk.old).clock + 2 }
-    ensures good { IsSafeFor (D.told disk.old) 4 → (D.told disk.old).has_room 2 (length body.now + 6) → HEADER + length body.now ≤ vec_capacity frame.old → IsOk result }
-    ensures enough { (D.told disk.old).has_room 2 (length body.now + 6) → HEADER + length body.now ≤ vec_capacity frame.old → IsErrOf result WriteRefused.NoMemory → ⊥ }
+    ensures plan { MeetsPlan (D.told disk.old) (D.told disk.new) 4 (IsErrOf result WriteRefused.Failed) }
+    ensures good { IsSafeFor (D.told disk.old) 4 → (D.told disk.old).has_room 2 (length body.now + 6) →
+        header + length body.now ≤ vec_capacity frame.old → IsOk result }
+    ensures enough { (D.told disk.old).has_room 2 (length body.now + 6) →
+        header + length body.now ≤ vec_capacity frame.old → IsErrOf result WriteRefused.NoMemory → ⊥ }
     ensures capacity { vec_capacity frame.old ≤ vec_capacity frame.new }
     ensures cause { HasCause (D.told disk.old) (D.told disk.new) (IsErrOf result WriteRefused.Failed) }
 {

@@ -44,7 +44,7 @@ pub enum AppendFault {
 }
 
 /// Why a body isn't read.
-#[derive(Clone, Copy, Debug, PartialEq, Eq, Error)]
+#[derive(Clone, Copy, Debug, Error)]
 pub enum ReadFault {
     /// The disk failed. Its count of faults rose.
     #[error("the disk failed")]

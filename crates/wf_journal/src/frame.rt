@@ -1,7 +1,6 @@
 //! The bytes of a frame.
 ghost use Rattle.std.specs.Prelude.{◌≡◌, ◌+◌, ◌≤◌, ◌++◌, ◌∷◌, [], ◌==◌, OnOk, IsOk, length, vec_capacity};
-ghost use Rattle.wf_journal.specs.declared.frame.TheConstants.{OPEN, CLOSED, HEADER};
-ghost use Rattle.wf_journal.specs.Frames.{packed};
+ghost use Rattle.wf_journal.specs.Frames.{open_gate, closed_gate, header, packed};
 ghost use Rattle.wf_journal.specs.StepAt.{fits_in};
 ghost use Rattle.wf_model.specs.Limits.{max_body};
 
@@ -21,8 +20,8 @@ pub const HEADER: u64 = 5;
 /// has no room for `HEADER` bytes and the body. In linear time in the body.
 pub fn pack(frame: &mut Vec<u8>, body: &[u8]) -> Result<(), AllocError>
     requires { length body.now ≤ max_body }
-    ensures ok { OnOk result (frame.new.items ≡ packed body.now ++ CLOSED ∷ []) }
-    ensures succeeds { HEADER + length body.now ≤ vec_capacity frame.old → IsOk result }
+    ensures ok { OnOk result (frame.new.items ≡ packed body.now ++ closed_gate ∷ []) }
+    ensures succeeds { header + length body.now ≤ vec_capacity frame.old → IsOk result }
     ensures capacity { vec_capacity frame.old ≤ vec_capacity frame.new }
 {
     frame.clear();
@@ -42,7 +41,7 @@ pub fn is_fit(len: u64, space: u64) -> bool
 
 /// Whether a gate is open.
 pub fn is_open(gate: u8) -> bool
-    ensures { result ≡ (gate == OPEN) }
+    ensures { result ≡ (gate == open_gate) }
 {
     gate == OPEN
 }

@@ -1,9 +1,11 @@
 //! A journal: bodies that were appended in order, each on the disk before it is acknowledged.
-ghost use Rattle.std.specs.Prelude.{◌≡◌, ◌⊎◌, ◌+◌, ◌≤◌, ◌<◌, ◌∷◌, [], ℕ, List, true, false, nat_lt, if◌then◌else◌, Option, None, Some, IfSome, is_some, IsNone, IfOk, IfErr, IsOk, OnOk, IsErr, IsErrOf, length};
-ghost use Rattle.wf_disk.specs.Disk.{HasCause, IsSafeFor, LeavesOnly, IsSame};
-ghost use Rattle.wf_journal.specs.declared.frame.TheConstants.{HEADER};
-ghost use Rattle.wf_journal.specs.Frames.{bodies_of, is_broken, end_of, IsAsBefore, IsBeforeOrAfter};
-ghost use Rattle.wf_journal.specs.Journal.{IsLeft, HasBodiesOf, KeepsBodies, IsPlace, IsRead};
+ghost use Rattle.std.specs.Prelude.{◌≡◌, ◌≢◌, ◌⊎◌, ◌+◌, ◌≤◌, ◌<◌, ◌∷◌, [], ℕ, true, false, None, IfSome, OnSome, is_some, IsNone, IfOk, IfErr, IsOk, OnOk, IsErr, IsErrOf, length};
+ghost use Rattle.wf_disk.specs.Disk.{HasCause, IsDown, IsSafeFor, LeavesOnly, IsSame};
+ghost use Rattle.wf_journal.specs.Append.{IsWritten, LeavesBeforeOrAfter, LeavesBefore};
+ghost use Rattle.wf_journal.specs.Plan.{WentOn, MeetsPlan, StartMeetsPlan};
+ghost use Rattle.wf_journal.specs.Start.{start_strokes, TakesStrokes, IsWhole, IsBadAt, IsMade, LeavesStart, CanBeRead};
+ghost use Rattle.wf_journal.specs.Frames.{header};
+ghost use Rattle.wf_journal.specs.Journal.{IsLeft, HasBodiesOf, KeepsBodies, IsReadFrom};
 ghost use Rattle.wf_journal.specs.Faults.{refusal_of};
 ghost use Rattle.wf_journal.specs.State.{IsReady};
 
@@ -47,13 +49,13 @@ pub struct Journal<D: Disk> {
 impl<D: Disk> Model for Journal<D> {
     ghost use Rattle.std.specs.Prelude.{◌-◌, vec_capacity};
     ghost use Rattle.wf_journal.specs.State.{Kept, kept_code, IsReady};
-    ghost use Rattle.wf_journal.specs.declared.frame.TheConstants.{HEADER};
+    ghost use Rattle.wf_journal.specs.Frames.{header};
 
     ghost Value = { Kept D };
 
     ghost coded = { kept_code D.code };
 
-    ghost view = { λ it. record { disk = it.disk; place = it.place; failed = it.failed; room = vec_capacity it.frame - HEADER } };
+    ghost view = { λ it. record { disk = it.disk; place = it.place; failed = it.failed; room = vec_capacity it.frame - header } };
 
     ghost invariant = { λ it. IsReady (D.told it.disk) it.place it.failed };
 }
@@ -64,21 +66,37 @@ impl<D: Disk> Journal<D> {
     /// byte as before. A crash meanwhile leaves a disk on which a journal starts, if one did before. In linear time in
     /// the number of frames, with the head of one in memory at a time.
     pub fn start(alloc: Global, disk: D) -> Result<Journal<D>, JournalRefused<D>>
-        ensures left { IfOk result (λ journal. (journal.failed ≡ false) × IsLeft (D.told disk) (D.told journal.disk) journal.place []) }
+        // At Ok: a closed gate is found or made, and a crash leaves the file as it is.
+        ensures left { IfOk result (λ journal.
+            (journal.failed ≡ false) × IsLeft (D.told disk) (D.told journal.disk) journal.place []) }
+        ensures made { IfOk result (λ journal. IsMade (D.told disk) (D.told journal.disk)) }
+        ensures begins { IfOk result (λ journal. CanBeRead (D.told journal.disk)) }
+        ensures whole { IfOk result (λ _. IsWhole (D.told disk)) }
+
+        // A bad frame.
+        ensures bad { IfErr result (λ refused. (at : ℕ) → refused.fault ≡ StartFault.BadFrame at →
+            IsBadAt (D.told disk) (D.told refused.disk) at) }
+
+        // The bodies stay, and so they do in a crash.
         ensures kept { IfOk result (λ journal. KeepsBodies (D.told disk) (D.told journal.disk)) }
         ensures kept_refused { IfErr result (λ refused. KeepsBodies (D.told disk) (D.told refused.disk)) }
-        ensures begins { IfOk result (λ journal. (file : List ℕ) → (D.told journal.disk).image ≡ Some file → IsPlace file 0) }
-        ensures whole { IfOk result (λ _. (file : List ℕ) → (D.told disk).image ≡ Some file → 2 ≤ length file → is_broken file ≡ false) }
-        ensures bad { IfErr result (λ refused. (at : ℕ) → refused.fault ≡ StartFault.BadFrame at → (file : List ℕ) → (D.told disk).image ≡ Some file →
-            (2 ≤ length file × (is_broken file ≡ true) × (end_of file ≡ at) × ((D.told refused.disk).image ≡ Some file))) }
-        ensures any_moment { IfOk result (λ journal. (file : List ℕ) → (D.told disk).image ≡ Some file →
-            LeavesOnly (D.told disk) (D.told journal.disk) (HasBodiesOf (D.told disk).may_leave)) }
-        ensures any_moment_refused { IfErr result (λ refused. (file : List ℕ) → (D.told disk).image ≡ Some file →
-            LeavesOnly (D.told disk) (D.told refused.disk) (HasBodiesOf (D.told disk).may_leave)) }
-        ensures strokes { IfOk result (λ journal. (file : List ℕ) → (D.told disk).image ≡ Some file →
-            (D.told journal.disk).clock ≡ (D.told disk).clock + (if nat_lt (length file) 2 then 3 else 1)) }
-        ensures later { IfOk result (λ journal. (D.told disk).faults ≤ (D.told journal.disk).faults) }
-        ensures cause { IfErr result (λ refused. HasCause (D.told disk) (D.told refused.disk) (refused.fault ≡ StartFault.DiskFailed)) }
+        ensures any_moment { IfOk result (λ journal. LeavesStart (D.told disk) (D.told journal.disk)) }
+        ensures any_moment_refused { IfErr result (λ refused. LeavesStart (D.told disk) (D.told refused.disk)) }
+
+        // The disk's strokes.
+        ensures strokes { IfOk result (λ journal. TakesStrokes (D.told disk) (D.told journal.disk)) }
+        ensures one { IfErr result (λ refused. refused.fault ≢ StartFault.DiskFailed →
+            (D.told refused.disk).clock ≡ (D.told disk).clock + 1) }
+        ensures plan { IfOk result (λ journal. WentOn (D.told disk) (D.told journal.disk)) }
+        ensures plan_refused { IfErr result (λ refused.
+            StartMeetsPlan (D.told disk) (D.told refused.disk) (refused.fault ≡ StartFault.DiskFailed)) }
+
+        // It fails only over a disk that fails.
+        ensures safe { IsSafeFor (D.told disk) (start_strokes (D.told disk).image + 1) →
+            IfErr result (λ refused. refused.fault ≢ StartFault.DiskFailed) }
+        ensures faults { IfOk result (λ journal. (D.told journal.disk).faults ≡ (D.told disk).faults) }
+        ensures cause { IfErr result (λ refused.
+            HasCause (D.told disk) (D.told refused.disk) (refused.fault ≡ StartFault.DiskFailed)) }
     {
         let mut disk = disk;
         match find_end(&mut disk) {
@@ -115,30 +133,48 @@ impl<D: Disk> Journal<D> {
     /// bodies are as before; it doesn't come where the journal and its disk have room. After `DiskFailed` the body may
     /// stand or not, and each later append answers `Reopen`. In linear time in the body.
     pub fn append(&mut self, body: &[u8]) -> Result<(), AppendFault>
-        ensures refused { IfSome (refusal_of self.old.failed self.old.place (length body.now)) (λ fault. (result ≡ Err fault) × (self.new ≡ self.old)) }
-        ensures other { IsNone (refusal_of self.old.failed self.old.place (length body.now)) → IfErr result (λ fault. (fault ≡ AppendFault.NoMemory) ⊎ (fault ≡ AppendFault.DiskFailed)) }
+        // Refused before anything is done: nothing changed.
+        ensures refused { IfSome (refusal_of self.old.failed self.old.place (length body.now))
+            (λ fault. (result ≡ Err fault) × (self.new ≡ self.old)) }
+        ensures other { IsNone (refusal_of self.old.failed self.old.place (length body.now)) →
+            IfErr result (λ fault. (fault ≡ AppendFault.NoMemory) ⊎ (fault ≡ AppendFault.DiskFailed)) }
+
+        // Acknowledged: the body is the last one, and a crash leaves the file as it is.
         ensures ok { OnOk result (IsLeft (D.told self.old.disk) (D.told self.new.disk) self.new.place (body.now ∷ [])) }
-        ensures no_memory { IsErrOf result AppendFault.NoMemory → IsLeft (D.told self.old.disk) (D.told self.new.disk) self.new.place [] }
-        ensures place { OnOk result (self.new.place ≡ self.old.place + (HEADER + length body.now)) }
+        ensures bytes { OnOk result (IsWritten (D.told self.old.disk) (D.told self.new.disk) self.old.place body.now) }
+        ensures place { OnOk result (self.new.place ≡ self.old.place + (header + length body.now)) }
+
+        // Not acknowledged.
+        ensures no_memory { IsErrOf result AppendFault.NoMemory →
+            IsLeft (D.told self.old.disk) (D.told self.new.disk) self.new.place [] }
+        ensures failed { IsErrOf result AppendFault.DiskFailed → self.new.failed ≡ true }
+        ensures not_failed { (IsErrOf result AppendFault.DiskFailed → ⊥) → self.new.failed ≡ self.old.failed }
         ensures place_kept { IsErr result → self.new.place ≡ self.old.place }
         ensures tells { is_some (D.told self.new.disk).image ≡ is_some (D.told self.old.disk).image }
 
-        // What a crash leaves.
-        ensures any_moment { self.old.failed ≡ false → (file : List ℕ) → (D.told self.old.disk).image ≡ Some file →
-            LeavesOnly (D.told self.old.disk) (D.told self.new.disk) (IsBeforeOrAfter (bodies_of file) body.now) }
-        ensures fewer { self.old.failed ≡ false → (file : List ℕ) → (D.told self.old.disk).image ≡ Some file → (D.told self.new.disk).clock < (D.told self.old.disk).clock + 3 →
-            LeavesOnly (D.told self.old.disk) (D.told self.new.disk) (IsAsBefore (bodies_of file)) }
-        ensures reopen { self.old.failed ≡ true → LeavesOnly (D.told self.old.disk) (D.told self.new.disk) (HasBodiesOf (D.told self.old.disk).may_leave) }
+        // What a crash leaves, at any moment of the call.
+        ensures any_moment { self.old.failed ≡ false →
+            LeavesBeforeOrAfter (D.told self.old.disk) (D.told self.new.disk) body.now }
+        ensures fewer { self.old.failed ≡ false → (D.told self.new.disk).clock < (D.told self.old.disk).clock + 3 →
+            LeavesBefore (D.told self.old.disk) (D.told self.new.disk) }
+        ensures reopen { self.old.failed ≡ true →
+            LeavesOnly (D.told self.old.disk) (D.told self.new.disk) (HasBodiesOf (D.told self.old.disk).may_leave) }
 
+        // The disk's strokes.
         ensures four { OnOk result ((D.told self.new.disk).clock ≡ (D.told self.old.disk).clock + 4) }
-        ensures two { IsErrOf result AppendFault.NoMemory → (D.told self.new.disk).clock ≤ (D.told self.old.disk).clock + 2 }
-        ensures good { IsNone (refusal_of self.old.failed self.old.place (length body.now)) → IsSafeFor (D.told self.old.disk) 4 →
-            (D.told self.old.disk).has_room 2 (length body.now + 6) → length body.now ≤ self.old.room → IsOk result }
-        ensures enough { length body.now ≤ self.old.room → (D.told self.old.disk).has_room 2 (length body.now + 6) → IsErrOf result AppendFault.NoMemory → ⊥ }
+        ensures two { IsErrOf result AppendFault.NoMemory →
+            (D.told self.new.disk).clock ≤ (D.told self.old.disk).clock + 2 }
+        ensures plan { MeetsPlan (D.told self.old.disk) (D.told self.new.disk) 4 (IsErrOf result AppendFault.DiskFailed) }
+
+        // It fails only over a disk that fails, and wants memory only without room.
+        ensures safe { IsSafeFor (D.told self.old.disk) 4 → IsErrOf result AppendFault.DiskFailed → ⊥ }
+        ensures good { IsNone (refusal_of self.old.failed self.old.place (length body.now)) →
+            IsSafeFor (D.told self.old.disk) 4 → (D.told self.old.disk).has_room 2 (length body.now + 6) →
+            length body.now ≤ self.old.room → IsOk result }
+        ensures enough { length body.now ≤ self.old.room →
+            (D.told self.old.disk).has_room 2 (length body.now + 6) → IsErrOf result AppendFault.NoMemory → ⊥ }
         ensures room { self.old.room ≤ self.new.room }
         ensures cause { HasCause (D.told self.old.disk) (D.told self.new.disk) (IsErrOf result AppendFault.DiskFailed) }
-        ensures failed { IsErrOf result AppendFault.DiskFailed → self.new.failed ≡ true }
-        ensures not_failed { (IsErrOf result AppendFault.DiskFailed → ⊥) → self.new.failed ≡ self.old.failed }
     {
         if let Some(fault) = self.refusal(body.len()) {
             return Err(fault);
@@ -160,11 +196,15 @@ impl<D: Disk> Journal<D> {
     /// is 0, or was given by an earlier read. At the end and after an `Err` `into` is empty. In linear time in the body,
     /// for which the memory that `into` has is used again.
     pub fn read(&mut self, place: u64, into: &mut Bytes) -> Result<Option<u64>, ReadFault>
-        ensures read { IfOk result (λ next. (file : List ℕ) → (D.told self.old.disk).image ≡ Some file → IsPlace file place → IsRead file place next into.new) }
-        ensures none { IfOk result (λ next. next ≡ None → into.new ≡ []) }
+        ensures read { IfOk result (λ found. IsReadFrom (D.told self.old.disk) place found into.new) }
+        ensures next { IfOk result (λ found. IfSome found (λ next. next ≡ place + (header + length into.new))) }
+        ensures some { IfOk result (λ found. OnSome found (1 ≤ length into.new)) }
+        ensures none { IfOk result (λ found. found ≡ None → into.new ≡ []) }
         ensures empty { IsErr result → into.new ≡ [] }
         ensures same { IsSame (D.told self.old.disk) (D.told self.new.disk) }
         ensures kept { self.new ≡ record self.old { disk = self.new.disk } }
+        ensures down { IsErrOf result ReadFault.DiskFailed → IsDown (D.told self.old.disk) }
+        ensures safe { IsSafeFor (D.told self.old.disk) 1 → IsErrOf result ReadFault.DiskFailed → ⊥ }
         ensures cause { HasCause (D.told self.old.disk) (D.told self.new.disk) (IsErrOf result ReadFault.DiskFailed) }
     {
         let mut body = replace(into, Items::new(self.alloc)).into_vec();
@@ -182,6 +222,13 @@ impl<D: Disk> Journal<D> {
         self.frame.clear();
         self.frame.reserve(HEADER as usize + len as usize)?;
         Ok(())
+    }
+
+    /// Whether a disk call of an append failed. Each later append answers `Reopen` then.
+    pub fn is_failed(&self) -> bool
+        ensures { result ≡ self.now.failed }
+    {
+        self.failed
     }
 
     /// The disk, lent.

@@ -9,9 +9,7 @@ mod frame;
 mod journal;
 mod laws;
 mod steps;
-#[cfg(test)]
-mod tests;
 
 pub use fault::{AppendFault, ReadFault, StartFault};
 pub use journal::{Journal, JournalRefused};
-pub use laws::{frames_are_read, journals_are_frames, reads_begin};
+pub use laws::{bytes_are_numbers, frames_are_read, journals_are_frames, reads_begin};

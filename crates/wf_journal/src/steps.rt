@@ -1,9 +1,10 @@
 //! The walk over the frames of a disk.
-ghost use Rattle.std.specs.Prelude.{◌≡◌, ◌+◌, ◌≤◌, ◌<◌, ℕ, List, Option, None, Some, IfOk, IfErr, IsErr, IsErrOf, true, false, [], nat_lt, if◌then◌else◌, length, drop};
-ghost use Rattle.wf_disk.specs.Disk.{IsSame, HasCause, LeavesOnly};
-ghost use Rattle.wf_journal.specs.declared.frame.TheConstants.{HEADER};
-ghost use Rattle.wf_journal.specs.Frames.{IsAtRest, end_of, is_broken};
-ghost use Rattle.wf_journal.specs.Journal.{IsLeft, HasBodiesOf, KeepsBodies, IsPlace, IsRead};
+ghost use Rattle.std.specs.Prelude.{◌≡◌, ◌≢◌, ◌∷◌, IfSome, OnSome, ◌+◌, ◌≤◌, ◌<◌, ℕ, List, Option, None, Some, IfOk, IfErr, IsErr, IsErrOf, true, false, [], length, drop};
+ghost use Rattle.wf_disk.specs.Disk.{IsSame, IsDown, HasCause};
+ghost use Rattle.wf_journal.specs.Plan.{StartMeetsPlan};
+ghost use Rattle.wf_journal.specs.Start.{TakesStrokes, IsWhole, IsBadAt, IsMade, LeavesStart};
+ghost use Rattle.wf_journal.specs.Frames.{header, IsAtRest, end_of, is_broken};
+ghost use Rattle.wf_journal.specs.Journal.{IsLeft, KeepsBodies, IsReadFrom};
 ghost use Rattle.wf_journal.specs.StepAt.{step_of};
 
 use crate::fault::{ReadFault, StartFault};
@@ -13,7 +14,7 @@ use wf_model::Failed;
 
 /// What stands at a place of the walk: a closed gate, an open gate with no whole frame behind it, or a frame and the
 /// place behind it.
-#[derive(Clone, Copy, Debug, PartialEq, Eq)]
+#[derive(Clone, Copy)]
 pub enum Step {
     Closed,
     Broken,
@@ -25,8 +26,9 @@ pub fn step_at<D: Disk>(disk: &mut D, at: u64, size: u64) -> Result<Step, Failed
     requires within { at < size }
     requires size { (file : List ℕ) → (D.told disk.old).image ≡ Some file → size ≡ length file }
     ensures step { IfOk result (λ step. (file : List ℕ) → (D.told disk.old).image ≡ Some file → step ≡ step_of at (drop at file)) }
-    ensures next { IfOk result (λ step. (next : ℕ) → step ≡ Step.Next next → (at + HEADER < next × next < size)) }
+    ensures next { IfOk result (λ step. (next : ℕ) → step ≡ Step.Next next → (at + header < next × next < size)) }
     ensures same { IsSame (D.told disk.old) (D.told disk.new) }
+    ensures down { IsErr result → IsDown (D.told disk.old) }
     ensures cause { HasCause (D.told disk.old) (D.told disk.new) (IsErr result) }
 {
     let mut gate = [0u8; 1];
@@ -52,8 +54,10 @@ pub fn walk<D: Disk>(disk: &mut D, size: u64) -> Result<u64, StartFault>
     requires some { 0 < size }
     requires size { (file : List ℕ) → (D.told disk.old).image ≡ Some file → size ≡ length file }
     ensures rests { IfOk result (λ at. (file : List ℕ) → (D.told disk.old).image ≡ Some file → IsAtRest file at) }
-    ensures bad { IfErr result (λ e. (at : ℕ) → e ≡ StartFault.BadFrame at → (file : List ℕ) → (D.told disk.old).image ≡ Some file → (is_broken file ≡ true) × (end_of file ≡ at)) }
+    ensures bad { IfErr result (λ e. (at : ℕ) → e ≡ StartFault.BadFrame at →
+        (file : List ℕ) → (D.told disk.old).image ≡ Some file → (is_broken file ≡ true) × (end_of file ≡ at)) }
     ensures memory { IsErrOf result StartFault.NoMemory → ⊥ }
+    ensures down { IsErrOf result StartFault.DiskFailed → IsDown (D.told disk.old) }
     ensures same { IsSame (D.told disk.old) (D.told disk.new) }
     ensures cause { HasCause (D.told disk.old) (D.told disk.new) (IsErrOf result StartFault.DiskFailed) }
 {
@@ -71,12 +75,13 @@ pub fn walk<D: Disk>(disk: &mut D, size: u64) -> Result<u64, StartFault>
 pub fn find_end<D: Disk>(disk: &mut D) -> Result<u64, StartFault>
     ensures left { IfOk result (λ place. IsLeft (D.told disk.old) (D.told disk.new) place []) }
     ensures kept { KeepsBodies (D.told disk.old) (D.told disk.new) }
-    ensures whole { IfOk result (λ _. (file : List ℕ) → (D.told disk.old).image ≡ Some file → 2 ≤ length file → is_broken file ≡ false) }
-    ensures bad { IfErr result (λ e. (at : ℕ) → e ≡ StartFault.BadFrame at → (file : List ℕ) → (D.told disk.old).image ≡ Some file →
-        (2 ≤ length file × (is_broken file ≡ true) × (end_of file ≡ at) × ((D.told disk.new).image ≡ Some file))) }
-    ensures any_moment { (file : List ℕ) → (D.told disk.old).image ≡ Some file → LeavesOnly (D.told disk.old) (D.told disk.new) (HasBodiesOf (D.told disk.old).may_leave) }
-    ensures strokes { IfOk result (λ _. (file : List ℕ) → (D.told disk.old).image ≡ Some file →
-        (D.told disk.new).clock ≡ (D.told disk.old).clock + (if nat_lt (length file) 2 then 3 else 1)) }
+    ensures whole { IfOk result (λ _. IsWhole (D.told disk.old)) }
+    ensures bad { IfErr result (λ e. (at : ℕ) → e ≡ StartFault.BadFrame at → IsBadAt (D.told disk.old) (D.told disk.new) at) }
+    ensures any_moment { LeavesStart (D.told disk.old) (D.told disk.new) }
+    ensures made { IfOk result (λ _. IsMade (D.told disk.old) (D.told disk.new)) }
+    ensures strokes { IfOk result (λ _. TakesStrokes (D.told disk.old) (D.told disk.new)) }
+    ensures one { IfErr result (λ e. e ≢ StartFault.DiskFailed → (D.told disk.new).clock ≡ (D.told disk.old).clock + 1) }
+    ensures plan { StartMeetsPlan (D.told disk.old) (D.told disk.new) (IsErrOf result StartFault.DiskFailed) }
     ensures cause { HasCause (D.told disk.old) (D.told disk.new) (IsErrOf result StartFault.DiskFailed) }
 {
     disk.sync()?;
@@ -95,9 +100,12 @@ pub fn read_frame<D: Disk>(
     place: u64,
     body: &mut Vec<u8>,
 ) -> Result<Option<u64>, ReadFault>
-    ensures read { IfOk result (λ next. (file : List ℕ) → (D.told disk.old).image ≡ Some file → IsPlace file place → IsRead file place next body.new.items) }
+    ensures read { IfOk result (λ next. IsReadFrom (D.told disk.old) place next body.new.items) }
+    ensures next { IfOk result (λ found. IfSome found (λ next. next ≡ place + (header + length body.new.items))) }
+    ensures some { IfOk result (λ found. OnSome found (1 ≤ length body.new.items)) }
     ensures none { IfOk result (λ next. next ≡ None → body.new.items ≡ []) }
     ensures same { IsSame (D.told disk.old) (D.told disk.new) }
+    ensures down { IsErrOf result ReadFault.DiskFailed → IsDown (D.told disk.old) }
     ensures cause { HasCause (D.told disk.old) (D.told disk.new) (IsErrOf result ReadFault.DiskFailed) }
 {
     body.clear();

@@ -12,7 +12,6 @@ pub mod limits;
 mod list;
 mod name;
 mod outer;
-mod part;
 mod same;
 mod status;
 mod step_notes;
@@ -30,10 +29,6 @@ pub use ids::{ActId, EventId, StateId, TransId, UnitId, VarId};
 pub use list::{Bytes, List};
 pub use name::{Name, is_digit, is_letter, is_name, is_reserved, is_word_char};
 pub use outer::{Entry, Outer, OuterFault, Output};
-pub use part::{
-    Component, Flat, KnownActivity, KnownEvent, KnownState, KnownVariable, OutputSort, Part,
-    PartTransition,
-};
 pub use same::Same;
 pub use status::Status;
 pub use step_notes::StepNotes;

@@ -4,7 +4,7 @@ use Rattle.std.specs.List.{flat_map}
 use Rattle.std.specs.Fmt.{decimal}
 use lib.Chars.{codes}
 use Rattle.wf_model.specs.declared.ids.TransId.{TransId}
-use Rattle.wf_model.specs.declared.part.Component.{Component}
+use Rattle.wf_parts.specs.declared.data.Component.{Component}
 use Rattle.wf_model.specs.declared.chart.Chart.{Chart}
 use Rattle.wf_words.specs.Names.{state_name}
 

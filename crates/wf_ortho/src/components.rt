@@ -10,7 +10,8 @@ ghost use Rattle.wf_scopes.specs.Tables.{tables_of};
 ghost use Rattle.wf_parts.specs.Components.{enters, leaves, component_of, blocker_ids, flat_of};
 
 use std::alloc::Global;
-use wf_model::{Chart, Checked, Component, Flat, List, NoMemory, StateId, TransId};
+use wf_model::{Chart, Checked, List, NoMemory, StateId, TransId};
+use wf_parts::{Component, Flat};
 use wf_scopes::{Scopes, default_bits};
 
 // The transitions that let state `z` in.

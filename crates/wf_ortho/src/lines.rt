@@ -4,18 +4,33 @@ ghost use Rattle.wf_parts.specs.Components.{flat_of, component_of};
 ghost use Rattle.wf_ortho.specs.Lines.{trans_list, first_word, component_head, enter_words, leave_words, component_line};
 
 use std::alloc::Global;
-use wf_model::{Bytes, Chart, Checked, Component, Flat, List, NoMemory, StateId, TransId};
+use wf_model::{Bytes, Chart, Checked, List, NoMemory, StateId, TransId};
+use wf_parts::{Component, Flat};
 use wf_words::{append_number, state_name};
 
-/// Appends transitions, each behind a blank.
-pub fn append_transitions(text: &mut Bytes, transitions: &[TransId]) -> Result<(), NoMemory>
-    ensures { OnOk result (text.new ≡ text.old ++ trans_list transitions.now) }
+// Adds transitions to a line, each behind a blank.
+fn add_transitions(line: &mut Bytes, transitions: &[TransId]) -> Result<(), NoMemory>
+    ensures { OnOk result (line.new ≡ line.old ++ trans_list transitions.now) }
 {
     for t in transitions {
-        text.append(b" t")?;
-        append_number(text, t.0.into())?;
+        line.append(b" t")?;
+        append_number(line, t.0.into())?;
     }
     Ok(())
+}
+
+/// Appends transitions, each behind a blank. After `NoMemory` the text is as before. Grows with them.
+pub fn append_transitions(
+    alloc: Global,
+    text: &mut Bytes,
+    transitions: &[TransId],
+) -> Result<(), NoMemory>
+    ensures ok { OnOk result (text.new ≡ text.old ++ trans_list transitions.now) }
+    ensures err { OnErr result (text.new ≡ text.old) }
+{
+    let mut list = List::new(alloc);
+    add_transitions(&mut list, transitions)?;
+    text.append(list.as_slice())
 }
 
 fn first_word(first: bool) -> &'static [u8]
@@ -24,41 +39,52 @@ fn first_word(first: bool) -> &'static [u8]
     if first { b" in" } else { b" out" }
 }
 
-fn append_head(text: &mut Bytes, chart: &Chart, component: &Component) -> Result<(), NoMemory>
-    ensures { OnOk result (text.new ≡ text.old ++ component_head chart.now component.now) }
+fn add_head(line: &mut Bytes, chart: &Chart, component: &Component) -> Result<(), NoMemory>
+    ensures { OnOk result (line.new ≡ line.old ++ component_head chart.now component.now) }
 {
-    text.append(b"component ")?;
-    text.append(state_name(chart, component.state))?;
-    text.append(first_word(component.first))
+    line.append(b"component ")?;
+    line.append(state_name(chart, component.state))?;
+    line.append(first_word(component.first))
 }
 
-fn append_enter(text: &mut Bytes, component: &Component) -> Result<(), NoMemory>
-    ensures { OnOk result (text.new ≡ text.old ++ enter_words component.now) }
+fn add_enter(line: &mut Bytes, component: &Component) -> Result<(), NoMemory>
+    ensures { OnOk result (line.new ≡ line.old ++ enter_words component.now) }
 {
-    text.append(b" enter")?;
-    append_transitions(text, component.enter.as_slice())
+    line.append(b" enter")?;
+    add_transitions(line, component.enter.as_slice())
 }
 
-fn append_leave(text: &mut Bytes, component: &Component) -> Result<(), NoMemory>
-    ensures { OnOk result (text.new ≡ text.old ++ leave_words component.now) }
+fn add_leave(line: &mut Bytes, component: &Component) -> Result<(), NoMemory>
+    ensures { OnOk result (line.new ≡ line.old ++ leave_words component.now) }
 {
-    text.append(b" leave")?;
-    append_transitions(text, component.leave.as_slice())
+    line.append(b" leave")?;
+    add_transitions(line, component.leave.as_slice())
 }
 
-/// Appends the line of a component.
+// Adds the line of a component.
 #[tactic(auto, unfolding(crate::specs::Lines::component_line))]
+fn add_component(line: &mut Bytes, chart: &Chart, component: &Component) -> Result<(), NoMemory>
+    ensures { OnOk result (line.new ≡ line.old ++ component_line chart.now component.now) }
+{
+    add_head(line, chart, component)?;
+    add_enter(line, component)?;
+    add_leave(line, component)?;
+    line.append(b"\n")
+}
+
+/// Appends the line of a component. After `NoMemory` the text is as before. Grows with the component's transitions.
 pub fn append_component(
+    alloc: Global,
     text: &mut Bytes,
     chart: &Chart,
     component: &Component,
 ) -> Result<(), NoMemory>
-    ensures { OnOk result (text.new ≡ text.old ++ component_line chart.now component.now) }
+    ensures ok { OnOk result (text.new ≡ text.old ++ component_line chart.now component.now) }
+    ensures err { OnErr result (text.new ≡ text.old) }
 {
-    append_head(text, chart, component)?;
-    append_enter(text, component)?;
-    append_leave(text, component)?;
-    text.append(b"\n")
+    let mut line = List::new(alloc);
+    add_component(&mut line, chart, component)?;
+    text.append(line.as_slice())
 }
 
 /// The line of the component of a state of the chart, which was cut into these components. Grows with the component's transitions.
@@ -74,6 +100,6 @@ pub fn guard_text(
 {
     let component = &flat.components.as_slice()[s.0 as usize];
     let mut text = List::new(alloc);
-    append_component(&mut text, checked.chart(), component)?;
+    add_component(&mut text, checked.chart(), component)?;
     Ok(text)
 }

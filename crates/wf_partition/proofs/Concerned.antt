@@ -2,8 +2,8 @@
 use Rattle.std.proofs.Common.{◌≡◌, ◌≢◌, ℕ, zero, suc, ◌+◌, ◌<◌, ◌≤◌, ◌==◌, ◌||◌, ◌&&◌, Bool, true, false, List, ◌∷◌, length, map, filter, cond, get_or, refl, sym, ◌∙◌, ap, ap₂, arith, eqb-true, eq-eqb, true≢false}
 use Rattle.std.specs.List.{list_any, range_with_len}
 use Rattle.wf_model.specs.declared.ids.TransId.{TransId}
-use Rattle.wf_model.specs.declared.part.Component.{Component}
-use Rattle.wf_model.specs.declared.part.Flat.{Flat}
+use Rattle.wf_parts.specs.declared.data.Component.{Component}
+use Rattle.wf_parts.specs.declared.data.Flat.{Flat}
 use Rattle.wf_model.specs.declared.chart.Chart.{Chart}
 use Rattle.wf_model.specs.Accepted.{IsAccepted}
 use Rattle.wf_model.specs.Tree.{all_states, all_transitions, source}

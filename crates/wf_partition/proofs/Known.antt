@@ -4,9 +4,9 @@ use Rattle.std.specs.List.{range_with_len, list_any, slice_get}
 use Rattle.std.specs.Option.{option_map_or, option_map}
 use Rattle.std.proofs.lemmas.Option.{slice_get-get_or}
 use Rattle.wf_model.specs.declared.ids.TransId.{TransId}
-use Rattle.wf_model.specs.declared.part.Component.{Component}
-use Rattle.wf_model.specs.declared.part.Flat.{Flat}
-use Rattle.wf_model.specs.declared.part.PartTransition.{PartTransition}
+use Rattle.wf_parts.specs.declared.data.Component.{Component}
+use Rattle.wf_parts.specs.declared.data.Flat.{Flat}
+use Rattle.wf_parts.specs.declared.data.PartTransition.{PartTransition}
 use Rattle.wf_model.specs.declared.chart.State.{State}
 use Rattle.wf_model.specs.declared.chart.Event.{Event}
 use Rattle.wf_model.specs.declared.chart.Activity.{Activity}
@@ -24,7 +24,7 @@ use Rattle.wf_model.specs.declared.chart.Action.{Action}
 use Rattle.wf_model.specs.Ids.{trans_id}
 use Rattle.wf_parts.specs.Reads.{assigns, is_on, reads_var, reads_act}
 use Rattle.wf_parts.specs.Known.{concerns, is_own, is_state_of, is_read, watches_state, knows_state, knows_var, knows_event, knows_act}
-use Rattle.wf_partition.specs.Marked.{marked, assigns_at, gives_at, triggers_at}
+use Rattle.wf_partition.specs.Marked.{gives_at, triggers_at}
 use Rattle.wf_partition.proofs.Bits.{marked_row, or_assoc}
 use Rattle.wf_partition.proofs.Concerned.{any_below}
 
@@ -33,7 +33,7 @@ abbrev pub the_transition : ℕ → Transition → Option Expr → List TransId 
 the_transition t tr guard blockers own actions =
     record { id = trans_id t; source = tr.source; event = tr.event; guard = guard; blockers = blockers; own = own; actions = actions }
 
-item_get : {A : Type 0} (xs : List A) (i : ℕ) (x : A) → i < length xs → x ≡ get_or xs i x → slice_get xs i ≡ Some x
+pub item_get : {A : Type 0} (xs : List A) (i : ℕ) (x : A) → i < length xs → x ≡ get_or xs i x → slice_get xs i ≡ Some x
 item_get xs i x lt is = slice_get-get_or xs i x lt ∙ ap Some (sym is)
 
 -- ---- components
@@ -80,19 +80,7 @@ first_read chart flat s e lt =
     ap (λ (o : Option Component). option_map_or (λ (component : Component). component.first) o false)
     (row_get (component_of chart) (length chart.states) s flat.components (ap (λ (f : Flat). f.components) e) lt)
 
-pub state_known : (chart : Chart) (u s : ℕ) (state : State) (watched : List Bool) → s < length chart.states → state ≡ get_or chart.states s state
-    → watched ≡ map (watches_state chart u) (all_states chart) → ((state.unit.0 == u) || get_or watched s false) ≡ knows_state chart u s
-state_known chart u s state watched lt is rows =
-    ap₂ (λ (a b : Bool). a || b) (sym (ap (λ (o : Option State). option_map_or (λ (x : State). x.unit.0 == u) o false) (state_get chart s state lt is)))
-    (row_at (watches_state chart u) (length chart.states) s false watched rows lt)
-
 -- ---- variables
-
-pub assigned_at : (chart : Chart) (u t : ℕ) (own : Bool) (tr : Transition) → t < length chart.transitions → tr ≡ get_or chart.transitions t tr → own ≡ is_state_of chart u tr.source.0
-    → (x : ℕ) → (own && assigns x tr) ≡ assigns_at chart u x t
-assigned_at chart u t own tr lt is o x =
-    ap₂ (λ (a b : Bool). a && b) (o ∙ own_read chart u t tr.source.0 (source_read chart t tr lt is))
-    (sym (ap (λ (y : Option Transition). option_map_or (assigns x) y false) (trans_get chart t tr lt is)))
 
 pub given_at : (chart : Chart) (u a : ℕ) (act : Activity) → a < length chart.acts → act ≡ get_or chart.acts a act
     → (x : ℕ) → ((act.unit.0 == u) && list_any (λ v. v.0 == x) act.outputs) ≡ gives_at chart u x a
@@ -101,44 +89,12 @@ given_at chart u a act lt is x =
     ap₂ (λ (b c : Bool). b && c) (sym (ap (λ (y : Option Activity). option_map_or (λ (n : ℕ). n == u) (option_map (λ (z : Activity). z.unit.0) y) false) there))
     (sym (ap (λ (y : Option Activity). option_map_or (λ (z : Activity). list_any (λ v. v.0 == x) z.outputs) y false) there))
 
-pub vars_known : (chart : Chart) (u : ℕ) (read written known : List Bool) → read ≡ map (λ x. is_read chart u (reads_var x)) (range_with_len 0 (length chart.vars))
-    → written ≡ marked (λ x. list_any (assigns_at chart u x) (all_transitions chart)) read → known ≡ marked (λ x. list_any (gives_at chart u x) (all_acts chart)) written
-    → (x : ℕ) → x < length chart.vars → get_or known x false ≡ knows_var chart u x
-unfolding knows_var
-vars_known chart u read written known r w k x lt =
-    row_at (λ y. (is_read chart u (reads_var y) || list_any (assigns_at chart u y) (all_transitions chart)) || list_any (gives_at chart u y) (all_acts chart)) (length chart.vars) x false known
-    (k ∙ marked_row (λ y. is_read chart u (reads_var y) || list_any (assigns_at chart u y) (all_transitions chart)) (λ y. list_any (gives_at chart u y) (all_acts chart)) (length chart.vars) written
-    (w ∙ marked_row (λ y. is_read chart u (reads_var y)) (λ y. list_any (assigns_at chart u y) (all_transitions chart)) (length chart.vars) read r)) lt
-    ∙ or_assoc (is_read chart u (reads_var x)) (list_any (assigns_at chart u x) (all_transitions chart)) (list_any (gives_at chart u x) (all_acts chart))
-
 -- ---- events
 
 pub trigger_at : (chart : Chart) (concerned : List Bool) (t : ℕ) (set : Bool) (tr : Transition) → t < length chart.transitions → tr ≡ get_or chart.transitions t tr → set ≡ get_or concerned t false
     → (n : ℕ) → (set && is_on n tr) ≡ triggers_at chart concerned n t
 trigger_at chart concerned t set tr lt is e n =
     ap₂ (λ (a b : Bool). a && b) e (sym (ap (λ (y : Option Transition). option_map_or (is_on n) y false) (trans_get chart t tr lt is)))
-
-pub event_known : (chart : Chart) (u n : ℕ) (event : Event) (concerned triggers : List Bool) → n < length chart.events → event ≡ get_or chart.events n event
-    → concerned ≡ map (concerns chart u) (all_transitions chart)
-    → triggers ≡ map (λ m. list_any (triggers_at chart concerned m) (all_transitions chart)) (range_with_len 0 (length chart.events))
-    → (option_map_or (λ at. at.0 == u) event.unit false || get_or triggers n false) ≡ knows_event chart u n
-unfolding knows_event
-event_known chart u n event concerned triggers lt is c rows =
-    ap₂ (λ (a b : Bool). a || b)
-    (sym (ap (λ (o : Option Event). option_map_or (λ (e : Event). option_map_or (λ at. at.0 == u) e.unit false) o false) (item_get chart.events n event lt is)))
-    (row_at (λ m. list_any (triggers_at chart concerned m) (all_transitions chart)) (length chart.events) n false triggers rows lt
-    ∙ any_below (triggers_at chart concerned n) _ 0 (length chart.transitions)
-    (λ t low. ap (λ (b : Bool). b && option_map_or (is_on n) (slice_get chart.transitions t) false) (row_at (concerns chart u) (length chart.transitions) t false concerned c (omega arith))))
-
--- ---- activities
-
-pub act_known : (chart : Chart) (u a : ℕ) (act : Activity) (read : List Bool) → a < length chart.acts → act ≡ get_or chart.acts a act
-    → read ≡ map (λ b. is_read chart u (reads_act b)) (all_acts chart) → ((act.unit.0 == u) || get_or read a false) ≡ knows_act chart u a
-unfolding knows_act
-act_known chart u a act read lt is rows =
-    ap₂ (λ (b c : Bool). b || c)
-    (sym (ap (λ (y : Option Activity). option_map_or (λ (n : ℕ). n == u) (option_map (λ (z : Activity). z.unit.0) y) false) (item_get chart.acts a act lt is)))
-    (row_at (λ b. is_read chart u (reads_act b)) (length chart.acts) a false read rows lt)
 
 -- ---- the part
 

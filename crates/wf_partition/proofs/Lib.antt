@@ -4,3 +4,7 @@ pub mod Concerned
 pub mod UnitTexts
 pub mod Numbered
 pub mod Known
+pub mod HoldingSteps
+pub mod KnownBits
+pub mod Shared
+pub mod PartMade

@@ -8,8 +8,8 @@ use Rattle.std.specs.List.{range_with_len, enumerate_from}
 use Rattle.wf_model.specs.Limits.{max_units}
 use Rattle.wf_model.specs.declared.chart.Chart.{Chart}
 use Rattle.wf_model.specs.declared.chart.State.{State}
-use Rattle.wf_model.specs.declared.part.KnownState.{KnownState}
-use Rattle.wf_model.specs.declared.part.Part.{Part}
+use Rattle.wf_parts.specs.declared.data.KnownState.{KnownState}
+use Rattle.wf_parts.specs.declared.data.PartData.{PartData}
 use Rattle.wf_model.specs.Accepted.{IsAccepted, is_accepted, is_small}
 use Rattle.wf_model.specs.Tree.{all_states}
 use Rattle.wf_model.proofs.Rows.{row_at, range_more}
@@ -45,7 +45,7 @@ told_at chart u bits is k d lt =
     rw number (row_at (watches_state chart u) (length chart.states) k false bits is within)
 
 -- the bits of all states tell of each that the unit knows
-pub told_of_known : (chart : Chart) (u : ℕ) (part : Part) (bits : List Bool) → part ≡ part_of chart u → bits ≡ map (watches_state chart u) (all_states chart)
+pub told_of_known : (chart : Chart) (u : ℕ) (part : PartData) (bits : List Bool) → part ≡ part_of chart u → bits ≡ map (watches_state chart u) (all_states chart)
     → AreWatched chart part bits
 unfolding part_of
 told_of_known chart u part bits is rows =

@@ -4,12 +4,16 @@ use Rattle.std.specs.List.{range_with_len, list_any}
 use Rattle.wf_model.specs.declared.expr.Expr.{Expr}
 use Rattle.wf_model.specs.declared.chart.Transition.{Transition}
 use Rattle.wf_model.specs.declared.chart.Chart.{Chart}
-use Rattle.wf_model.specs.declared.part.Component.{Component}
-use Rattle.wf_model.specs.Tree.{all_states, all_acts, source}
-use Rattle.wf_parts.specs.Reads.{reads_state, reads_var, reads_act, guard_reads, values_read, assigns, is_on}
-use Rattle.wf_parts.specs.Known.{concerns, is_own, is_such, is_read, watches_state, has_output}
+use Rattle.wf_parts.specs.declared.data.Component.{Component}
+use Rattle.wf_model.specs.Tree.{all_states, all_transitions, all_events, all_acts, source}
+use Rattle.wf_parts.specs.Reads.{reads_state, reads_var, reads_act, guard_reads, values_read, action_assigns, may_raise, may_start, is_on}
+use Rattle.wf_parts.specs.Peers.{held_by}
+use Rattle.wf_parts.specs.Known.{concerns, is_own, is_such, is_read, watches_state, has_output, knows_state, knows_var, knows_event, knows_act}
 use Rattle.wf_semantics.specs.Admission.{is_act_at}
+use Rattle.wf_model.specs.declared.chart.Action.{Action}
 use Rattle.wf_partition.specs.declared.reading.Reads.{Reads}
+use Rattle.wf_partition.specs.declared.holding.Held.{Held}
+use Rattle.wf_partition.specs.declared.knowing.UnitBits.{UnitBits}
 
 -- the bits of the numbers from a on, with those set whose numbers pass
 unfoldable pub marked_from : ℕ → (ℕ → Bool) → List Bool → List Bool
@@ -54,9 +58,43 @@ pub record AreSeen (chart : Chart) (u : ℕ) (seen : Reads) : Type 0 where
   pub vars : seen.vars ≡ map (λ x. is_read chart u (reads_var x)) (range_with_len 0 (length chart.vars))
   pub acts : seen.acts ≡ map (λ a. is_read chart u (reads_act a)) (all_acts chart)
 
--- transition t is u's own, and assigns variable x
-abbrev pub assigns_at : Chart → ℕ → ℕ → ℕ → Bool
-assigns_at chart u x t = is_own chart u t && is_such (assigns x) chart t
+-- transition t is u's own, and one of its actions passes
+abbrev pub has_at : Chart → ℕ → (Action → Bool) → ℕ → Bool
+has_at chart u test t = is_own chart u t && is_such (λ trans. list_any test trans.actions) chart t
+
+-- what may be changed by actions that pass is added
+pub record Holds (test : (Action → Bool) → Bool) (old new : Held) : Type 0 where
+  pub states : new.states ≡ old.states
+  pub vars : new.vars ≡ marked (λ x. test (action_assigns x)) old.vars
+  pub events : new.events ≡ marked (λ e. test (may_raise e)) old.events
+  pub acts : new.acts ≡ marked (λ a. test (may_start a)) old.acts
+
+-- for each state, variable, event and activity, whether it may stand in u's updates
+unfoldable pub held_bits : Chart → ℕ → Held
+held_bits chart u =
+    record {
+      states = map (held_by chart u).states (all_states chart);
+      vars = map (held_by chart u).vars (range_with_len 0 (length chart.vars));
+      events = map (held_by chart u).events (all_events chart);
+      acts = map (held_by chart u).acts (all_acts chart);
+    }
+
+-- what concerns u, what it watches, what may stand in its updates, and what it knows
+unfoldable pub unit_bits : Chart → ℕ → UnitBits
+unit_bits chart u =
+    record {
+      concerned = map (concerns chart u) (all_transitions chart);
+      watched = map (watches_state chart u) (all_states chart);
+      held = held_bits chart u;
+      states = map (knows_state chart u) (all_states chart);
+      vars = map (knows_var chart u) (range_with_len 0 (length chart.vars));
+      events = map (knows_event chart u) (all_events chart);
+      acts = map (knows_act chart u) (all_acts chart);
+    }
+
+-- the bit is set in both
+abbrev pub are_set : List Bool → List Bool → ℕ → Bool
+are_set one other k = slice_index_or one k false && slice_index_or other k false
 
 -- activity a is u's own, and x is one of its outputs
 abbrev pub gives_at : Chart → ℕ → ℕ → ℕ → Bool

@@ -3,8 +3,8 @@ use Rattle.std.specs.Prelude.{◌≡◌, ℕ, ◌++◌, Bool, true, false, List,
 use Rattle.std.specs.List.{flat_map, range_with_len}
 use Rattle.std.specs.Fmt.{decimal}
 use lib.Chars.{codes}
-use Rattle.wf_model.specs.declared.part.PartTransition.{PartTransition}
-use Rattle.wf_model.specs.declared.part.Part.{Part}
+use Rattle.wf_parts.specs.declared.data.PartTransition.{PartTransition}
+use Rattle.wf_parts.specs.declared.data.PartData.{PartData}
 use Rattle.wf_model.specs.declared.chart.Chart.{Chart}
 use Rattle.wf_words.specs.Names.{state_name, var_name, event_name, act_name}
 use Rattle.wf_parts.specs.Known.{watches_state}
@@ -27,7 +27,7 @@ unfoldable pub names_line : List ℕ → List (List ℕ) → List ℕ
 names_line word names = word ++ flat_map name_text names ++ codes "\n"
 
 -- the names of the states that the unit watches, and of the variables, events and activities that it knows
-unfoldable pub known_lines : Chart → Part → List ℕ
+unfoldable pub known_lines : Chart → PartData → List ℕ
 known_lines chart part =
     names_line (codes "states") (map (λ k. state_name chart k.id) (filter (λ k. watches_state chart part.unit.0 k.id.0) part.states))
     ++ (names_line (codes "vars") (map (λ k. var_name chart k.id) part.vars)
@@ -38,11 +38,11 @@ abbrev pub bit : List Bool → ℕ → Bool
 bit bits s = slice_index_or bits s false
 
 -- of each state that the unit knows, the bit tells whether it watches it
-abbrev pub AreWatched : Chart → Part → List Bool → Type 0
+abbrev pub AreWatched : Chart → PartData → List Bool → Type 0
 AreWatched chart part bits = All (λ k. bit bits k.id.0 ≡ watches_state chart part.unit.0 k.id.0) part.states
 
 -- unit NAME, its components, the guards that concern it, and what it knows
-unfoldable pub part_text : Chart → Part → List ℕ
+unfoldable pub part_text : Chart → PartData → List ℕ
 part_text chart part =
     codes "unit " ++ part.name ++ (codes "\n" ++ flat_map (component_line chart) part.components ++ (flat_map guard_line part.transitions ++ known_lines chart part))
 

@@ -1,9 +1,12 @@
 //! What each unit is given of a chart.
 #![tactic(auto)]
 
-mod knowledge;
+mod holding;
+mod knowing;
+mod lists;
 mod marks;
 mod part;
+mod peers;
 mod reading;
 mod split;
 

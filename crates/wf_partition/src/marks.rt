@@ -1,14 +1,15 @@
 //! Which transitions concern a unit, and what these read.
 ghost use Rattle.std.specs.Prelude.{◌≡◌, ◌==◌, ◌&&◌, map, IfOk};
 ghost use Rattle.std.specs.List.{list_any};
-ghost use Rattle.wf_model.specs.Tree.{all_states, all_transitions};
+ghost use Rattle.wf_model.specs.Tree.{all_transitions};
 ghost use Rattle.wf_parts.specs.Components.{flat_of};
-ghost use Rattle.wf_parts.specs.Known.{concerns, watches_state};
+ghost use Rattle.wf_parts.specs.Known.{concerns};
 ghost use Rattle.wf_partition.specs.Marked.{marked, moves, leads_from, AreSeen};
 
 use crate::reading::{Reads, is_set, is_state_of, mark, none_set, read_by};
 use std::alloc::Global;
-use wf_model::{Chart, Checked, Component, Flat, List, NoMemory, TransId, UnitId};
+use wf_model::{Chart, Checked, List, NoMemory, TransId, UnitId};
+use wf_parts::{Component, Flat};
 
 // Sets the bits of these transitions. Grows with them.
 fn mark_all(bits: &mut List<bool>, transitions: &[TransId])
@@ -81,20 +82,4 @@ pub fn seen_by(
     let mut reads = read_by(alloc, chart, concerned, unit)?;
     mark_sources(&mut reads.states, chart, concerned);
     Ok(reads)
-}
-
-/// For each state, whether the unit watches it. Grows with the states, variables and activities, with the transitions and their
-/// expressions, and with the transitions of the unit's components.
-pub fn watched(
-    alloc: Global,
-    checked: &Checked,
-    flat: &Flat,
-    unit: UnitId,
-) -> Result<List<bool>, NoMemory>
-    requires flat { flat.now ≡ flat_of checked.now }
-    ensures { IfOk result (λ bits. bits ≡ map (watches_state checked.now unit.0) (all_states checked.now)) }
-{
-    let concerned = concerned(alloc, checked, flat, unit)?;
-    let seen = seen_by(alloc, checked.chart(), concerned.as_slice(), unit)?;
-    Ok(seen.states)
 }

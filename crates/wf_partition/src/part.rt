@@ -1,20 +1,20 @@
 //! The part of a unit.
-ghost use Rattle.std.specs.Prelude.{◌≡◌, ◌<◌, ◌||◌, ◌==◌, length, map, filter, slice_index_or, slice_get, false, [], if◌then◌else◌, IfOk};
-ghost use Rattle.std.specs.Option.{option_map_or};
+ghost use Rattle.std.specs.Prelude.{◌≡◌, ◌<◌, length, map, filter, [], if◌then◌else◌, IfOk};
+ghost use Rattle.std.specs.List.{range_with_len};
 ghost use Rattle.wf_model.specs.Accepted.{IsAccepted};
 ghost use Rattle.wf_model.specs.Tree.{all_states, all_transitions, source};
 ghost use Rattle.wf_parts.specs.Components.{flat_of, component_of};
-ghost use Rattle.wf_parts.specs.Known.{concerns, is_state_of, watches_state, knows_state};
-ghost use Rattle.wf_parts.specs.Parts.{numbered, part_transition, known_state, part_of};
+ghost use Rattle.wf_parts.specs.Known.{concerns, is_state_of};
+ghost use Rattle.wf_parts.specs.Parts.{numbered, part_transition, part_of};
+ghost use Rattle.wf_partition.specs.Marked.{unit_bits};
 
-use crate::knowledge::{acts_of, events_of, vars_of};
-use crate::marks::{concerned, seen_by};
+use crate::knowing::{UnitBits, all_bits};
+use crate::lists::{acts_of, events_of, states_of, vars_of};
+use crate::peers::peers_of;
 use crate::reading::{is_set, is_state_of};
 use std::alloc::Global;
-use wf_model::{
-    Action, Chart, Checked, Component, Duplicate, Flat, KnownState, List, NoMemory, Part,
-    PartTransition, State, StateId, TransId, Transition, UnitId,
-};
+use wf_model::{Action, Chart, Checked, Duplicate, List, NoMemory, TransId, Transition, UnitId};
+use wf_parts::{Component, Flat, Part, PartData, PartTransition};
 
 // The components of the unit's states. Grows with the states, and with the transitions of these components.
 fn components_of(
@@ -99,75 +99,33 @@ fn transitions_of(
     Ok(transitions)
 }
 
-// Whether a state is in at first.
-fn starts_in(flat: &Flat, s: usize) -> bool
-    ensures { result ≡ option_map_or (λ component. component.first) (slice_get flat.now.components s) false }
-{
-    match flat.components.get(s) {
-        Some(component) => component.first,
-        None => false,
-    }
-}
-
-// Whether the unit knows a state: it is its own, or it is watched.
-fn knows_state(watched: &[bool], unit: UnitId, s: usize, state: &State) -> bool
-    ensures { result ≡ ((state.now.unit.0 == unit.0) || slice_index_or watched.now s false) }
-{
-    state.unit.0 == unit.0 || is_set(watched, s)
-}
-
-// The states that the unit knows. Grows with the states.
-fn states_of(
+/// What the unit is given of the chart, by what each unit has of it. Grows with the chart, and with the transitions of the unit's components
+/// and of the guards that concern it.
+pub fn part_from(
     alloc: Global,
     chart: &Chart,
     flat: &Flat,
-    watched: &[bool],
+    all: &[UnitBits],
     unit: UnitId,
-) -> Result<List<KnownState>, NoMemory>
-    requires accepted { IsAccepted chart.now }
-    requires flat { flat.now ≡ flat_of chart.now }
-    requires watched { watched.now ≡ map (watches_state chart.now unit.0) (all_states chart.now) }
-    ensures { IfOk result (λ states. states ≡ map (known_state chart.now) (numbered (knows_state chart.now unit.0) chart.now.states)) }
-{
-    let mut states = List::new(alloc);
-    for (s, state) in chart.states.as_slice().iter().enumerate() {
-        if knows_state(watched, unit, s, state) {
-            let first = starts_in(flat, s);
-            states.push(KnownState {
-                id: StateId(s as u32),
-                unit: state.unit,
-                first,
-            })?;
-        }
-    }
-    Ok(states)
-}
-
-// What the unit is given of the chart, where it is known which transitions concern it.
-fn part_from(
-    alloc: Global,
-    chart: &Chart,
-    flat: &Flat,
-    concerned: &[bool],
-    unit: UnitId,
-) -> Result<Part, NoMemory>
+) -> Result<PartData, NoMemory>
     requires accepted { IsAccepted chart.now }
     requires flat { flat.now ≡ flat_of chart.now }
     requires within { unit.0 < length chart.now.units }
-    requires concerned { concerned.now ≡ map (concerns chart.now unit.0) (all_transitions chart.now) }
+    requires all { all.now ≡ map (unit_bits chart.now) (range_with_len 0 (length chart.now.units)) }
     ensures { IfOk result (λ part. part ≡ part_of chart.now unit.0) }
 {
-    let seen = seen_by(alloc, chart, concerned, unit)?;
+    let bits = &all[unit.0 as usize];
     let chart_name = chart.name.copy(alloc)?;
     let name = chart.units.as_slice()[unit.0 as usize].copy(alloc)?;
     let units = chart.units.len() as u32;
     let components = components_of(alloc, chart, flat, unit)?;
-    let transitions = transitions_of(alloc, chart, flat, concerned, unit)?;
-    let states = states_of(alloc, chart, flat, seen.states.as_slice(), unit)?;
-    let vars = vars_of(alloc, chart, seen.vars, unit)?;
-    let events = events_of(alloc, chart, concerned, unit)?;
-    let acts = acts_of(alloc, chart, seen.acts.as_slice(), unit)?;
-    Ok(Part {
+    let transitions = transitions_of(alloc, chart, flat, bits.concerned.as_slice(), unit)?;
+    let states = states_of(alloc, chart, flat, bits.states.as_slice(), unit)?;
+    let vars = vars_of(alloc, chart, bits.vars.as_slice(), unit)?;
+    let events = events_of(alloc, chart, bits.events.as_slice(), unit)?;
+    let acts = acts_of(alloc, chart, bits.acts.as_slice(), unit)?;
+    let peers = peers_of(alloc, chart, &bits.held, all, unit)?;
+    Ok(PartData {
         chart: chart_name,
         name,
         unit,
@@ -178,11 +136,12 @@ fn part_from(
         vars,
         events,
         acts,
+        peers,
     })
 }
 
-/// What a unit is given of a chart, which was cut into these components, and nothing else of it. Grows with the chart, and with the
-/// transitions of the unit's components and of the guards that concern it.
+/// What a unit is given of a chart, which was cut into these components, and nothing else of it. Grows with the units times the chart, and
+/// with the transitions of the unit's components and of the guards that concern it.
 pub fn part_of(
     alloc: Global,
     checked: &Checked,
@@ -193,6 +152,7 @@ pub fn part_of(
     requires within { unit.0 < length checked.now.units }
     ensures { IfOk result (λ part. part ≡ part_of checked.now unit.0) }
 {
-    let concerned = concerned(alloc, checked, flat, unit)?;
-    part_from(alloc, checked.chart(), flat, concerned.as_slice(), unit)
+    let all = all_bits(alloc, checked, flat)?;
+    let part = part_from(alloc, checked.chart(), flat, all.as_slice(), unit)?;
+    Ok(Part::seal(part))
 }

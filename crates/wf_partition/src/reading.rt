@@ -10,7 +10,7 @@ use std::alloc::Global;
 use wf_model::{Action, Chart, Expr, List, NoMemory, StateId, Transition, UnitId};
 
 /// Bits for the states, variables and activities of a chart: which are read.
-#[derive(Debug, Drop)]
+#[derive(Drop)]
 pub struct Reads {
     pub states: List<bool>,
     pub vars: List<bool>,

@@ -1,24 +1,28 @@
 //! The text of a chart that is split into parts.
 ghost use Rattle.std.specs.Prelude.{◌≡◌, ◌<◌, ◌++◌, codes, flat_map, map, filter, length, IfOk, OnOk};
 ghost use Rattle.wf_words.specs.Names as named;
+ghost use Rattle.std.specs.List.{range_with_len};
+ghost use Rattle.wf_model.specs.Accepted.{IsAccepted};
 ghost use Rattle.wf_parts.specs.Components.{flat_of};
 ghost use Rattle.wf_parts.specs.Known.{watches_state};
 ghost use Rattle.wf_parts.specs.Parts as parts;
 ghost use Rattle.wf_ortho.specs.Lines.{component_line};
 ghost use Rattle.wf_partition.specs.SplitText as spec;
+ghost use Rattle.wf_partition.specs.Marked.{unit_bits};
 
-use crate::marks::watched;
-use crate::part::part_of;
+use crate::knowing::{UnitBits, all_bits};
+use crate::part::part_from;
 use crate::reading::is_set;
 use std::alloc::Global;
-use wf_model::{
-    Bytes, Chart, Checked, Component, Flat, KnownActivity, KnownEvent, KnownState, KnownVariable,
-    List, NoMemory, Part, PartTransition, UnitId,
-};
+use wf_model::{Bytes, Chart, Checked, List, NoMemory, UnitId};
 use wf_ortho::{append_component, append_transitions};
+use wf_parts::{
+    Component, Flat, KnownActivity, KnownEvent, KnownState, KnownVariable, PartData, PartTransition,
+};
 use wf_words::{act_name, append_number, event_name, state_name, var_name};
 
 fn append_components(
+    alloc: Global,
     text: &mut Bytes,
     chart: &Chart,
     components: &[Component],
@@ -26,7 +30,7 @@ fn append_components(
     ensures { OnOk result (text.new ≡ text.old ++ flat_map (component_line chart.now) components.now) }
 {
     for component in components {
-        append_component(text, chart, component)?;
+        append_component(alloc, text, chart, component)?;
     }
     Ok(())
 }
@@ -38,22 +42,30 @@ fn own_word(own: bool) -> &'static [u8]
 }
 
 #[tactic(auto, unfolding(crate::specs::SplitText::guard_line))]
-fn append_guard(text: &mut Bytes, transition: &PartTransition) -> Result<(), NoMemory>
+fn append_guard(
+    alloc: Global,
+    text: &mut Bytes,
+    transition: &PartTransition,
+) -> Result<(), NoMemory>
     ensures { OnOk result (text.new ≡ text.old ++ spec.guard_line transition.now) }
 {
     text.append(b"guard t")?;
     append_number(text, transition.id.0.into())?;
     text.append(own_word(transition.own))?;
     text.append(b" unless")?;
-    append_transitions(text, transition.blockers.as_slice())?;
+    append_transitions(alloc, text, transition.blockers.as_slice())?;
     text.append(b"\n")
 }
 
-fn append_guards(text: &mut Bytes, transitions: &[PartTransition]) -> Result<(), NoMemory>
+fn append_guards(
+    alloc: Global,
+    text: &mut Bytes,
+    transitions: &[PartTransition],
+) -> Result<(), NoMemory>
     ensures { OnOk result (text.new ≡ text.old ++ flat_map spec.guard_line transitions.now) }
 {
     for transition in transitions {
-        append_guard(text, transition)?;
+        append_guard(alloc, text, transition)?;
     }
     Ok(())
 }
@@ -121,7 +133,7 @@ fn append_acts(text: &mut Bytes, chart: &Chart, acts: &[KnownActivity]) -> Resul
 fn append_watched(
     text: &mut Bytes,
     chart: &Chart,
-    part: &Part,
+    part: &PartData,
     bits: &[bool],
 ) -> Result<(), NoMemory>
     requires { spec.AreWatched chart.now part.now bits.now }
@@ -132,7 +144,12 @@ fn append_watched(
 
 // Appends the lines of what the unit knows, its watched states as the bits tell.
 #[tactic(auto, unfolding(crate::specs::SplitText::known_lines))]
-fn append_known(text: &mut Bytes, chart: &Chart, part: &Part, bits: &[bool]) -> Result<(), NoMemory>
+fn append_known(
+    text: &mut Bytes,
+    chart: &Chart,
+    part: &PartData,
+    bits: &[bool],
+) -> Result<(), NoMemory>
     requires { spec.AreWatched chart.now part.now bits.now }
     ensures { OnOk result (text.new ≡ text.old ++ spec.known_lines chart.now part.now) }
 {
@@ -152,31 +169,45 @@ fn append_head(text: &mut Bytes, name: &[u8]) -> Result<(), NoMemory>
 
 // Appends the text of a part, whose watched states the bits tell.
 #[tactic(auto, unfolding(crate::specs::SplitText::part_text))]
-fn append_part(text: &mut Bytes, chart: &Chart, part: &Part, bits: &[bool]) -> Result<(), NoMemory>
+fn append_part(
+    alloc: Global,
+    text: &mut Bytes,
+    chart: &Chart,
+    part: &PartData,
+    bits: &[bool],
+) -> Result<(), NoMemory>
     requires { spec.AreWatched chart.now part.now bits.now }
     ensures { OnOk result (text.new ≡ text.old ++ spec.part_text chart.now part.now) }
 {
     append_head(text, part.name.as_bytes())?;
-    append_components(text, chart, part.components.as_slice())?;
-    append_guards(text, part.transitions.as_slice())?;
+    append_components(alloc, text, chart, part.components.as_slice())?;
+    append_guards(alloc, text, part.transitions.as_slice())?;
     append_known(text, chart, part, bits)
 }
 
-// Appends the text of a unit's part.
+// Appends the text of a unit's part, by what each unit has of the chart.
 fn append_unit(
     alloc: Global,
     text: &mut Bytes,
-    checked: &Checked,
+    chart: &Chart,
     flat: &Flat,
+    all: &[UnitBits],
     unit: UnitId,
 ) -> Result<(), NoMemory>
-    requires flat { flat.now ≡ flat_of checked.now }
-    requires within { unit.0 < length checked.now.units }
-    ensures { OnOk result (text.new ≡ text.old ++ spec.part_text checked.now (parts.part_of checked.now unit.0)) }
+    requires accepted { IsAccepted chart.now }
+    requires flat { flat.now ≡ flat_of chart.now }
+    requires within { unit.0 < length chart.now.units }
+    requires all { all.now ≡ map (unit_bits chart.now) (range_with_len 0 (length chart.now.units)) }
+    ensures { OnOk result (text.new ≡ text.old ++ spec.part_text chart.now (parts.part_of chart.now unit.0)) }
 {
-    let part = part_of(alloc, checked, flat, unit)?;
-    let bits = watched(alloc, checked, flat, unit)?;
-    append_part(text, checked.chart(), &part, bits.as_slice())
+    let part = part_from(alloc, chart, flat, all, unit)?;
+    append_part(
+        alloc,
+        text,
+        chart,
+        &part,
+        all[unit.0 as usize].watched.as_slice(),
+    )
 }
 
 /// The text of the chart's parts, unit by unit. Grows with the units times the chart, and with what is written.
@@ -185,9 +216,18 @@ pub fn split_text(alloc: Global, checked: &Checked, flat: &Flat) -> Result<Bytes
     requires { flat.now ≡ flat_of checked.now }
     ensures { IfOk result (λ text. text ≡ spec.split_text checked.now) }
 {
+    let chart = checked.chart();
+    let all = all_bits(alloc, checked, flat)?;
     let mut text = List::new(alloc);
-    for unit in 0..checked.chart().units.len() {
-        append_unit(alloc, &mut text, checked, flat, UnitId(unit as u32))?;
+    for unit in 0..chart.units.len() {
+        append_unit(
+            alloc,
+            &mut text,
+            chart,
+            flat,
+            all.as_slice(),
+            UnitId(unit as u32),
+        )?;
     }
     Ok(text)
 }

@@ -1,10 +1,9 @@
 -- A chart cut into components: for each state, which transitions let it in and out, and for each transition, which block it.
 use Rattle.std.specs.Prelude.{ℕ, ◌&&◌, ◌||◌, not, Bool, List, [], map, filter, slice_get, unwrap_or}
 use Rattle.std.specs.List.{list_any}
-use Rattle.wf_model.specs.declared.ids.StateId.{StateId}
 use Rattle.wf_model.specs.declared.ids.TransId.{TransId}
-use Rattle.wf_model.specs.declared.part.Component.{Component}
-use Rattle.wf_model.specs.declared.part.Flat.{Flat}
+use Rattle.wf_parts.specs.declared.data.Component.{Component}
+use Rattle.wf_parts.specs.declared.data.Flat.{Flat}
 use Rattle.wf_model.specs.declared.chart.Chart.{Chart}
 use Rattle.wf_model.specs.Tree.{all_states, all_transitions, scope, is_above}
 use Rattle.wf_model.specs.Ids.{state_id, trans_id}

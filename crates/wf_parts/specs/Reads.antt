@@ -58,3 +58,15 @@ assigns x trans = list_any (action_assigns x) trans.actions
 -- its event is event n
 abbrev pub is_on : ℕ → Transition → Bool
 is_on n trans = option_map_or (λ event. event.0 == n) trans.event false
+
+-- the action may raise event e; `fault`, event 0, comes where an assigned value faults
+abbrev pub may_raise : ℕ → Action → Bool
+may_raise e (Assign x value) = e == 0
+may_raise e (Raise event) = event.0 == e
+may_raise e (Start act) = false
+
+-- the action may start activity a
+abbrev pub may_start : ℕ → Action → Bool
+may_start a (Assign x value) = false
+may_start a (Raise event) = false
+may_start a (Start act) = act.0 == a

@@ -64,7 +64,7 @@ tokens_have text = lex_has _ _ _ false text
 
 read_has : (text : List ℕ) (found : Result (List Token) LexFault) → HasMemory found → chart_from text found ≢ Err placed.NoMemory
 unfolding placed_fault
-read_has text (Ok tokens) has = by_outcome (contents (start_of text tokens)) (contents_fits (start_of text tokens))
+read_has text (Ok tokens) has h = by_outcome (contents (start_of text tokens)) (contents_fits (start_of text tokens)) h
   where
     by_outcome : (r : Outcome (List ℕ × List Move)) → Fits (start_of text tokens) Chart AtEnd r → with_place text tokens (whole r) ≢ Err placed.NoMemory
     by_outcome (Ok q) fit h = cc

@@ -1,6 +1,6 @@
 use Rattle.std.proofs.Common.{◌≡◌, length, map, refl, arith, ap, ◌∙◌}
 use Rattle.std.specs.List.{range_with_len}
-use Rattle.wf_model.specs.declared.part.Flat.{Flat}
+use Rattle.wf_parts.specs.declared.data.Flat.{Flat}
 use Rattle.wf_model.proofs.Rows.{row_at, row_len}
 use Rattle.wf_parts.specs.Components.{flat_of, component_of}
 use Rattle.wf_ortho.proofs.lines.guard_text.Goals as goal
@@ -17,4 +17,4 @@ returns c =
     c.as_slice.ensures ∙ ap (λ (f : Flat). f.components) c.requires.flat in
     let item : c.index-as_slice-s.result ≡ component_of c.args.checked.now c.args.s.0 =
     c.index-as_slice-s.is ∙ row_at (component_of c.args.checked.now) (length c.args.checked.now.states) c.args.s.0 c.index-as_slice-s.result c.as_slice.result.now rows c.requires.within in
-    c.in_ok-append_component.ensures ∙ rw (c.new-text.ensures, c.chart.ensures.same, item) refl
+    c.in_ok-add_component.ensures ∙ rw (c.new-text.ensures, c.chart.ensures.same, item) refl

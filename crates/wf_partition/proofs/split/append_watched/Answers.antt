@@ -1,6 +1,6 @@
 use Rattle.std.proofs.Common.{◌≡◌, ◌++◌, ◌∙◌, List, codes, filter, map, ap}
 use Rattle.std.proofs.lemmas.Result.{on_ok_weaker}
-use Rattle.wf_model.specs.declared.part.KnownState.{KnownState}
+use Rattle.wf_parts.specs.declared.data.KnownState.{KnownState}
 use Rattle.wf_words.specs.Names.{state_name}
 use Rattle.wf_parts.specs.Known.{watches_state}
 use Rattle.wf_partition.specs.SplitText.{bit, names_line}

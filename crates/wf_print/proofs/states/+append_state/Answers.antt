@@ -3,8 +3,8 @@ use Rattle.wf_model.specs.Limits.{max_depth}
 use Rattle.wf_print.proofs.Pieces.{none_written, deep_written, table_row, leaf_written, nest_written}
 use Rattle.wf_print.proofs.states.+append_state.Goals as goal
 
-pub returns-then-depth-eq-max_depth : goal.returns-then-depth-eq-max_depth
-returns-then-depth-eq-max_depth t c = deep_written c.args.chart.now c.args.depth c.args.s c.args.text.now c.if-depth-eq-max_depth.true
+pub returns-then-depth-eq-MAX_DEPTH : goal.returns-then-depth-eq-MAX_DEPTH
+returns-then-depth-eq-MAX_DEPTH t c = deep_written c.args.chart.now c.args.depth c.args.s c.args.text.now c.if-depth-eq-MAX_DEPTH.true
 
 pub returns-in_default : goal.returns-in_default
 returns-in_default t c = none_written c.args.chart.now (max_depth - c.args.depth) c.args.depth c.args.s c.args.text.now (sym c.in_default.ensures.value)

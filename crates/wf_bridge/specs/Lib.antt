@@ -1,0 +1,5 @@
+pub mod Bridging
+pub mod Full
+pub mod Sharing
+pub mod Places
+pub mod Simulated

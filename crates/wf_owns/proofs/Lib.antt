@@ -1,0 +1,4 @@
+pub mod Small
+pub mod Apart
+pub mod Ranged
+pub mod Sorting

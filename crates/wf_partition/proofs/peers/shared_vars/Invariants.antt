@@ -1,0 +1,8 @@
+use Rattle.std.proofs.Common.{◌≡◌, map, filter}
+use Rattle.std.specs.List.{range_with_len}
+use Rattle.wf_model.specs.Ids.{var_id}
+use Rattle.wf_partition.specs.Marked.{are_set}
+use Rattle.wf_partition.proofs.peers.shared_vars.Given as goal
+
+abbrev pub invariant-loop-k : goal.invariant-loop-k
+invariant-loop-k l = l.ids ≡ map var_id (filter (are_set l.held l.known) (range_with_len 0 l.k))

@@ -1,0 +1,5 @@
+use Rattle.wf_worlds.proofs.Keeping.{local_is_sorted}
+use Rattle.wf_worlds.proofs.laws.local_is_sorted.Goals as goal
+
+pub returns : goal.returns
+returns c = local_is_sorted

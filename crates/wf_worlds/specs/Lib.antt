@@ -1,0 +1,5 @@
+pub mod Counts
+pub mod Admitting
+pub mod Growing
+pub mod Worlds
+pub mod Kept

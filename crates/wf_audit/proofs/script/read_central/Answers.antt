@@ -5,7 +5,7 @@ use Rattle.wf_audit.specs.declared.script.ScriptFault.TheVariants as faults
 use Rattle.wf_model.specs.Steps.{Gives}
 use Rattle.wf_audit.specs.Lines.{lines_of}
 use Rattle.wf_audit.specs.Finders.{finder_of}
-use Rattle.wf_audit.specs.Names.{Finder}
+use Rattle.wf_audit.specs.Names.{Finder, names_of}
 use Rattle.wf_audit.specs.Script.{line_at, lines_from, script_of}
 use Rattle.wf_audit.proofs.Divided.{behind_line-shorter}
 use Rattle.wf_audit.proofs.Read.{gives_refused, read_more}
@@ -19,7 +19,7 @@ returns-in_err-said c =
     subst (λ (r : Result (List (ℕ × CentralLine)) ScriptFault). Gives faults.NoMemory r (script_of c.args.checked.now c.args.script.now)) (sym same)
     (gives_refused (finder_of c.in_ok-names.names) (c.loop-rest.number + 1) c.loop-rest.lines c.loop-rest.rest.now c.split_line.result.0.now
     c.in_err-said.field-0.0 (script_of c.args.checked.now c.args.script.now) some c.split_line.ensures.line
-    (c.loop-rest.invariant.read ∙ ap (λ (names : Finder). lines_from names 1 (lines_of c.args.script.now)) c.in_ok-names.ensures)
+    (c.loop-rest.invariant.read ∙ ap (λ (names : Finder). lines_from names 1 (lines_of c.args.script.now)) (c.in_ok-names.ensures ∙ ap names_of c.chart.ensures.same))
     c.in_err-said.ensures)
 
 pub loop-rest-preserved : goal.loop-rest-preserved

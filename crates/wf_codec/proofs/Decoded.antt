@@ -7,7 +7,7 @@ use Rattle.wf_codec.specs.declared.fault.Misfit.{Misfit}
 use Rattle.wf_codec.specs.declared.fault.Misfit.TheVariants.{Short, Bad}
 use Rattle.wf_codec.specs.declared.fault.CodecFault.{CodecFault}
 use Rattle.wf_codec.specs.declared.fault.CodecFault.TheVariants as codec
-use Rattle.wf_codec.specs.declared.update.TheConstants.{TAG}
+use Rattle.wf_codec.specs.Tags.{update_tag}
 use Rattle.wf_codec.specs.Spelling.{spelling_of}
 use Rattle.wf_codec.specs.Ranges.{chart_numbers, IsUpdate}
 use Rattle.wf_codec.specs.Fields.{update_at, told, decoded}
@@ -34,13 +34,13 @@ pub decoded_takes : (bytes : List ℕ) (x : Update × ℕ) → IsBytes bytes →
 unfolding decoded
 decoded_takes [] x fits e = absurd cc
 decoded_takes (tag ∷ bytes) x fits e =
-    let t = told_ok (suc (length bytes)) (update_at chart_numbers None (tag ∷ bytes)) x (tag_ok (eqb tag TAG) (told (suc (length bytes)) (update_at chart_numbers None (tag ∷ bytes))) x e) in
+    let t = told_ok (suc (length bytes)) (update_at chart_numbers None (tag ∷ bytes)) x (tag_ok (eqb tag update_tag) (told (suc (length bytes)) (update_at chart_numbers None (tag ∷ bytes))) x e) in
     let u = update_takes (tag ∷ bytes) x.0 t.0 fits t.1 in
     let len : suc (length bytes) ≡ length (spelling_of x.0) + length t.0 = ap length u.0.parts ∙ length-append (spelling_of x.0) t.0 in
     (u.1, omega (arith, len, t.2), t.0, u.0.parts)
 
 -- bytes with an update's tag
-tagged : (bytes : List ℕ) → decoded (TAG ∷ bytes) ≡ told (suc (length bytes)) (update_at chart_numbers None (TAG ∷ bytes))
+tagged : (bytes : List ℕ) → decoded (update_tag ∷ bytes) ≡ told (suc (length bytes)) (update_at chart_numbers None (update_tag ∷ bytes))
 unfolding decoded
 tagged bytes = refl
 

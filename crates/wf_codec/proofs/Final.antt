@@ -7,7 +7,7 @@ use Rattle.wf_codec.specs.declared.fault.Misfit.{Misfit}
 use Rattle.wf_codec.specs.declared.fault.Misfit.TheVariants.{Short, Bad}
 use Rattle.wf_codec.specs.declared.fault.CodecFault.{CodecFault}
 use Rattle.wf_codec.specs.declared.fault.CodecFault.TheVariants as codec
-use Rattle.wf_codec.specs.declared.update.TheConstants.{TAG}
+use Rattle.wf_codec.specs.Tags.{update_tag}
 use Rattle.wf_codec.specs.Ranges.{chart_numbers}
 use Rattle.wf_codec.specs.Fields.{update_at, told, decoded}
 use Rattle.wf_codec.specs.Finality.{AnswerIsFinal, FaultIsFirst, FrontIsShort, FaultComesAtOnce}
@@ -47,7 +47,7 @@ pub answer_final : AnswerIsFinal
 unfolding decoded
 answer_final [] more e = absurd (e refl)
 answer_final (tag ∷ rest) more e =
-    picked_more (eqb tag TAG) (told_of (tag ∷ (rest ++ more))) (told_of (tag ∷ rest)) (Err codec.BadTag) (told_more (tag ∷ rest) more (first_update (tag ∷ rest)) refl) e
+    picked_more (eqb tag update_tag) (told_of (tag ∷ (rest ++ more))) (told_of (tag ∷ rest)) (Err codec.BadTag) (told_more (tag ∷ rest) more (first_update (tag ∷ rest)) refl) e
 
 picked : (b : Bool) (r x : Answer) → x ≢ Err codec.BadTag → cond b r (Err codec.BadTag) ≡ x → r ≡ x
 picked true r x other e = e
@@ -56,7 +56,7 @@ picked false r x other e = absurd (other (sym e))
 -- an answer that isn't on the tag is what is told
 answer_told : (tag : ℕ) (rest : List ℕ) (x : Answer) → x ≢ Err codec.BadTag → decoded (tag ∷ rest) ≡ x → told_of (tag ∷ rest) ≡ x
 unfolding decoded
-answer_told tag rest x other e = picked (eqb tag TAG) (told_of (tag ∷ rest)) x other e
+answer_told tag rest x other e = picked (eqb tag update_tag) (told_of (tag ∷ rest)) x other e
 
 -- ---- front parts
 
@@ -131,13 +131,13 @@ picked_so true r x is e = e
 picked_so false r x is e = absurd cc
 
 -- the fault of bytes with an update's tag is told
-fault_told : (tag : ℕ) (rest : List ℕ) (at : ℕ) → decoded (tag ∷ rest) ≡ bad_at at → (eqb tag TAG ≡ true) × (told_of (tag ∷ rest) ≡ bad_at at)
+fault_told : (tag : ℕ) (rest : List ℕ) (at : ℕ) → decoded (tag ∷ rest) ≡ bad_at at → (eqb tag update_tag ≡ true) × (told_of (tag ∷ rest) ≡ bad_at at)
 unfolding decoded
-fault_told tag rest at e = (tag_is_so (eqb tag TAG) (told_of (tag ∷ rest)) at e, picked (eqb tag TAG) (told_of (tag ∷ rest)) (bad_at at) (λ h. absurd cc) e)
+fault_told tag rest at e = (tag_is_so (eqb tag update_tag) (told_of (tag ∷ rest)) at e, picked (eqb tag update_tag) (told_of (tag ∷ rest)) (bad_at at) (λ h. absurd cc) e)
 
-told_fault : (tag : ℕ) (rest : List ℕ) (at : ℕ) → eqb tag TAG ≡ true → told_of (tag ∷ rest) ≡ bad_at at → decoded (tag ∷ rest) ≡ bad_at at
+told_fault : (tag : ℕ) (rest : List ℕ) (at : ℕ) → eqb tag update_tag ≡ true → told_of (tag ∷ rest) ≡ bad_at at → decoded (tag ∷ rest) ≡ bad_at at
 unfolding decoded
-told_fault tag rest at is e = picked_so (eqb tag TAG) (told_of (tag ∷ rest)) (bad_at at) is e
+told_fault tag rest at is e = picked_so (eqb tag update_tag) (told_of (tag ∷ rest)) (bad_at at) is e
 
 -- where a fault that is told begins
 told_bad : (len : ℕ) (r : Result (Update × List ℕ) Misfit) (at : ℕ) → told len r ≡ bad_at at → (left : ℕ) × (r ≡ Err (Bad left)) × (len - left ≡ at)

@@ -11,8 +11,7 @@ use Rattle.wf_model.specs.declared.update.Write.{Write}
 use Rattle.wf_model.specs.declared.update.StartAt.{StartAt}
 use Rattle.wf_model.specs.declared.update.Update.{Update}
 use Rattle.wf_codec.specs.declared.field.Numbers.{Numbers}
-use Rattle.wf_codec.specs.declared.value.TheConstants.{BOOL, INT}
-use Rattle.wf_codec.specs.declared.outer.TheConstants.{HAPPEN}
+use Rattle.wf_codec.specs.Tags.{bool_sort, int_sort, happen_kind}
 use Rattle.wf_codec.specs.Reading.{byte_that, number_in}
 use Rattle.wf_codec.specs.Fields.{bool_at, int_at, text_at, value_at, state_at, event_at, trans_at, write_at, start_at, output_at, happening_at, completion_at, outer_at, list_at, update_at}
 use Rattle.wf_codec.proofs.Going.{Reader, GoesOn, goes_then, goes_map, goes_if, goes_that, goes_byte, goes_number, goes_eight, goes_items}
@@ -37,7 +36,7 @@ goes_text = goes_then _ _ (goes_byte _ _) (λ len. goes_map _ _ (goes_items (λ 
 
 pub goes_value : GoesOn value_at
 unfolding value_at
-goes_value = goes_then _ _ (goes_byte _ _) (λ sort. goes_if (eqb sort BOOL) _ _ goes_bool (goes_if (eqb sort INT) _ _ goes_int goes_text))
+goes_value = goes_then _ _ (goes_byte _ _) (λ sort. goes_if (eqb sort bool_sort) _ _ goes_bool (goes_if (eqb sort int_sort) _ _ goes_int goes_text))
 
 pub goes_state : (before : Option StateId) → GoesOn (state_at before)
 unfolding state_at
@@ -75,7 +74,7 @@ goes_completion numbers =
 
 pub goes_outer : (numbers : Numbers) (before : Option Outer) → GoesOn (outer_at numbers before)
 unfolding outer_at
-goes_outer numbers before = goes_then _ _ (goes_byte _ _) (λ kind. goes_if (eqb kind HAPPEN) _ _ (goes_happening numbers) (goes_completion numbers))
+goes_outer numbers before = goes_then _ _ (goes_byte _ _) (λ kind. goes_if (eqb kind happen_kind) _ _ (goes_happening numbers) (goes_completion numbers))
 
 pub goes_list : {A : Type 0} (item : Option A → Reader A) (bound : ℕ) → ((before : Option A) → GoesOn (item before)) → GoesOn (list_at item bound)
 unfolding list_at

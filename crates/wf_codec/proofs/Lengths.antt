@@ -11,8 +11,12 @@ use Rattle.wf_model.specs.declared.outer.Outer.TheVariants.{Happen, Complete}
 use Rattle.wf_model.specs.declared.update.Write.{Write}
 use Rattle.wf_model.specs.declared.update.Update.{Update}
 use Rattle.wf_codec.specs.declared.room.TheConstants.{VALUE, OUTPUT, OUTER, WRITE, MAX_SPELLING}
-use Rattle.wf_codec.specs.Spelling.{two, four, value_spelling, state_spelling, event_spelling, trans_spelling, write_spelling, start_spelling, output_spelling, outer_spelling, listed, spelling_of}
-use Rattle.wf_codec.specs.Ranges.{chart_numbers, IsOuter, IsHeldValue, IsHeldOuter, IsUpdate}
+use Rattle.wf_codec.specs.Spelling.{two, four, eight, value_spelling, state_spelling, event_spelling, trans_spelling, write_spelling, start_spelling, output_spelling, outer_spelling, listed, spelling_of}
+use Rattle.wf_codec.specs.declared.field.Numbers.{Numbers}
+use Rattle.wf_codec.specs.Tags.{head_tag, admit_tag, turn_tag}
+use Rattle.wf_codec.specs.Ranges.{chart_numbers, any_numbers, IsOuter, IsHeldValue, IsHeldOuter, IsInRange, IsHeld, IsUpdate}
+use Rattle.wf_codec.specs.Records.{named, record_spelling}
+use Rattle.wf_codec.specs.Lengths.{HeadIsShort, AdmitIsShort, TurnIsShort}
 use Rattle.wf_codec.proofs.Fits.{flips_few, writes_few, raised_few}
 
 -- ---- items one after another
@@ -85,16 +89,16 @@ completion_length item act outputs =
     let behind = length outputs ∷ flat_map output_spelling outputs in
     omega (arith, length-append (four item) (two act ++ behind), length-append (two act) behind)
 
-outer_most : (o : Outer) → IsOuter chart_numbers o → IsHeldOuter o → length (outer_spelling o) ≤ OUTER
+outer_most : (numbers : Numbers) (o : Outer) → IsOuter numbers o → IsHeldOuter o → length (outer_spelling o) ≤ OUTER
 unfolding outer_spelling
-outer_most (Happen e) ranged held = omega arith
-outer_most (Complete item act outputs) ranged held =
+outer_most numbers (Happen e) ranged held = omega arith
+outer_most numbers (Complete item act outputs) ranged held =
     let most = most_length output_spelling OUTPUT (λ o. IsHeldValue o.val) (λ o h. omega (arith, output_length o, value_most o.val h)) outputs held.1 in
     omega (arith, completion_length item act.0 outputs, most, ranged.2)
 
 outers_most : (os : List Outer) → AllByRecursion (IsOuter chart_numbers) os → AllByRecursion IsHeldOuter os → length (flat_map outer_spelling os) ≤ OUTER * length os
 outers_most [] ranged held = omega arith
-outers_most (o ∷ os) ranged held = omega (arith, length_cons outer_spelling o os, outer_most o ranged.0 held.0, outers_most os ranged.1 held.1)
+outers_most (o ∷ os) ranged held = omega (arith, length_cons outer_spelling o os, outer_most chart_numbers o ranged.0 held.0, outers_most os ranged.1 held.1)
 
 -- an update has a short spelling
 pub spelling_short : (u : Update) → IsUpdate u → length (spelling_of u) ≤ MAX_SPELLING
@@ -102,3 +106,27 @@ spelling_short u is =
     let writes = most_length write_spelling WRITE (λ w. IsHeldValue w.val) (λ w h. omega (arith, write_length w, value_most w.val h)) u.writes is.1.0 in
     let outers = outers_most u.outer is.0.outer is.1.1 in
     omega (arith, spelling_length u, flips_few u is.0, writes_few u is.0, raised_few u is.0, is.0.starts_few, is.0.fired_few, is.0.outer_few, writes, outers)
+
+-- ---- records
+
+pub head_short : HeadIsShort
+unfolding record_spelling
+head_short version chart unit is = omega (arith, length-append (head_tag ∷ version ∷ named chart) (named unit), is.0.1.1, is.0.2.1)
+
+pub admit_short : AdmitIsShort
+unfolding record_spelling
+admit_short request outer is = omega (arith, length-append (admit_tag ∷ eight request) (outer_spelling outer), outer_most any_numbers outer is.0 is.1.1)
+
+all_updates : (us : List Update) → AllByRecursion IsInRange us → AllByRecursion IsHeld us → AllByRecursion IsUpdate us
+all_updates [] ranged held = tt
+all_updates (u ∷ us) ranged held = ((ranged.0, held.0), all_updates us ranged.1 held.1)
+
+pub turn_short : TurnIsShort
+unfolding record_spelling
+turn_short step inputs sealed is =
+    omega (
+      arith,
+      length-append (turn_tag ∷ four step) (length inputs ∷ flat_map spelling_of inputs ++ two sealed),
+      length-append (length inputs ∷ flat_map spelling_of inputs) (two sealed),
+      most_length spelling_of MAX_SPELLING IsUpdate spelling_short inputs (all_updates inputs is.0.0 is.1.1),
+    )

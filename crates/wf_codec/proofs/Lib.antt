@@ -16,3 +16,5 @@ pub mod Final
 pub mod Parts
 pub mod Fits
 pub mod Lengths
+pub mod Ordered
+pub mod Decided

@@ -13,7 +13,7 @@ use Rattle.wf_model.specs.declared.update.Update.{Update}
 use Rattle.wf_codec.specs.declared.fault.Misfit.{Misfit}
 use Rattle.wf_codec.specs.declared.fault.Misfit.TheVariants.{Short, Bad}
 use Rattle.wf_codec.specs.declared.field.Numbers.{Numbers}
-use Rattle.wf_codec.specs.declared.value.TheConstants.{BOOL, INT}
+use Rattle.wf_codec.specs.Tags.{bool_sort, int_sort}
 use Rattle.wf_codec.specs.Reading.{◌>>=◌, byte_that, byte_in, number_in, eight_at, ranged, is_within, items_at}
 use Rattle.wf_codec.specs.Fields.{bool_at, int_at, text_at, value_at, state_at, event_at, trans_at, write_at, start_at, output_at, happening_at, completion_at, outer_at, list_at, update_at}
 use Rattle.wf_codec.proofs.ReadLoop.{Reads}
@@ -96,7 +96,7 @@ text_leaves bytes =
 value_leaves : (bytes : List ℕ) → Leaves (length bytes) (value_at bytes)
 unfolding value_at
 value_leaves bytes =
-    Leaves-then _ _ _ (byte_leaves _ _ bytes) (λ sort. Leaves-if _ (eqb sort.0 BOOL) _ _ (bool_leaves sort.1) (Leaves-if _ (eqb sort.0 INT) _ _ (int_leaves sort.1) (text_leaves sort.1)))
+    Leaves-then _ _ _ (byte_leaves _ _ bytes) (λ sort. Leaves-if _ (eqb sort.0 bool_sort) _ _ (bool_leaves sort.1) (Leaves-if _ (eqb sort.0 int_sort) _ _ (int_leaves sort.1) (text_leaves sort.1)))
 
 -- ---- entries
 

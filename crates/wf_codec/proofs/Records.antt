@@ -13,7 +13,7 @@ use Rattle.wf_codec.specs.declared.fault.Misfit.{Misfit}
 use Rattle.wf_codec.specs.declared.fault.RecordFault.{RecordFault}
 use Rattle.wf_codec.specs.declared.record.JournalRecord.{JournalRecord}
 use Rattle.wf_codec.specs.declared.record.JournalRecord.TheVariants.{Head, Admit, Turn}
-use Rattle.wf_codec.specs.declared.record.TheConstants.{HEAD, ADMIT, TURN}
+use Rattle.wf_codec.specs.Tags.{head_tag, admit_tag, turn_tag}
 use Rattle.wf_codec.specs.Spelling.{two, four, eight, outer_spelling, spelling_of}
 use Rattle.wf_codec.specs.Ranges.{any_numbers, IsInRange, IsHeld, IsUpdate}
 use Rattle.wf_codec.specs.Records.{is_head_char, named, record_spelling, IsHeadName, IsRecord, head_name_at, head_at, admit_at, turn_at, record_at, whole, record_of}
@@ -39,9 +39,9 @@ Reads-name =
 -- ---- a record by its tag
 
 abbrev tag_of : JournalRecord → ℕ
-tag_of (Head version chart unit) = HEAD
-tag_of (Admit request outer) = ADMIT
-tag_of (Turn step inputs sealed) = TURN
+tag_of (Head version chart unit) = head_tag
+tag_of (Admit request outer) = admit_tag
+tag_of (Turn step inputs sealed) = turn_tag
 
 abbrev behind_tag : JournalRecord → List ℕ
 behind_tag (Head version chart unit) = version ∷ named chart ++ named unit
@@ -71,20 +71,20 @@ unit_of (Turn step inputs sealed) = []
 abbrev AreHeadParts : JournalRecord → Type 0
 AreHeadParts r = IsWithin 1 2 (version_of r) × (IsHeadName (chart_of r) × (IsHeadName (unit_of r) × (r ≡ Head (version_of r) (chart_of r) (unit_of r))))
 
-head_is : (r : JournalRecord) → AreHeadParts r → IsTagged HEAD r
+head_is : (r : JournalRecord) → AreHeadParts r → IsTagged head_tag r
 head_is r (version, (chart, (unit, same))) =
     let one : version_of r ≡ 1 = omega (arith, version.0, version.1) in
-    subst (λ (s : JournalRecord). IsTagged HEAD s) (sym same) (refl, ((one, chart, unit), tt))
+    subst (λ (s : JournalRecord). IsTagged head_tag s) (sym same) (refl, ((one, chart, unit), tt))
 
-head_fits : (r : JournalRecord) → IsTagged HEAD r → AreHeadParts r
+head_fits : (r : JournalRecord) → IsTagged head_tag r → AreHeadParts r
 head_fits (Head version chart unit) (tag, (ranges, held)) = ((omega (arith, ranges.0), omega (arith, ranges.0)), (ranges.1, (ranges.2, refl)))
 head_fits (Admit request outer) h = absurd (omega arith)
 head_fits (Turn step inputs sealed) h = absurd (omega arith)
 
-Reads-head : Reads head_at behind_tag (IsTagged HEAD)
+Reads-head : Reads head_at behind_tag (IsTagged head_tag)
 unfolding head_at
 Reads-head =
-    Reads-as behind_tag (IsTagged HEAD)
+    Reads-as behind_tag (IsTagged head_tag)
     (Reads-then version_of (Reads-byte 1 2)
     (λ version version_fits. Reads-then chart_of Reads-name
     (λ chart chart_fits. Reads-of unit_of (λ unit. Head version chart unit) Reads-name (λ unit fit. refl))
@@ -111,18 +111,18 @@ outer_of (Turn step inputs sealed) = no_outer
 abbrev AreAdmitParts : JournalRecord → Type 0
 AreAdmitParts r = IsWithin 0 (2 ^ 64) (request_of r) × (IsWhole any_numbers (outer_of r) × (r ≡ Admit (request_of r) (outer_of r)))
 
-admit_is : (r : JournalRecord) → AreAdmitParts r → IsTagged ADMIT r
-admit_is r (request, (outer, same)) = subst (λ (s : JournalRecord). IsTagged ADMIT s) (sym same) (refl, (outer.0, (request.1, outer.1)))
+admit_is : (r : JournalRecord) → AreAdmitParts r → IsTagged admit_tag r
+admit_is r (request, (outer, same)) = subst (λ (s : JournalRecord). IsTagged admit_tag s) (sym same) (refl, (outer.0, (request.1, outer.1)))
 
-admit_fits : (r : JournalRecord) → IsTagged ADMIT r → AreAdmitParts r
+admit_fits : (r : JournalRecord) → IsTagged admit_tag r → AreAdmitParts r
 admit_fits (Head version chart unit) h = absurd (omega arith)
 admit_fits (Admit request outer) (tag, (ranges, held)) = ((omega arith, held.0), ((ranges, held.1), refl))
 admit_fits (Turn step inputs sealed) h = absurd (omega arith)
 
-Reads-admit : Reads admit_at behind_tag (IsTagged ADMIT)
+Reads-admit : Reads admit_at behind_tag (IsTagged admit_tag)
 unfolding admit_at
 Reads-admit =
-    Reads-as behind_tag (IsTagged ADMIT)
+    Reads-as behind_tag (IsTagged admit_tag)
     (Reads-then request_of Reads-eight
     (λ request request_fits. Reads-of outer_of (λ outer. Admit request outer) (Reads-outer any_numbers (omega arith, omega arith, omega arith) None) (λ outer fit. refl))
     (λ request r fit fits. ap request_of fits.1))
@@ -167,24 +167,24 @@ AreTurnParts r =
     IsWithin 0 (2 ^ 32) (step_of r) × (IsWithin 0 256 (length (inputs_of r)) × (((length (inputs_of r) ≡ length (inputs_of r)) × EachFits IsNextUpdate None (inputs_of r))
     × (IsWithin 0 (2 ^ 16) (sealed_of r) × (r ≡ Turn (step_of r) (inputs_of r) (sealed_of r)))))
 
-turn_is : (r : JournalRecord) → AreTurnParts r → IsTagged TURN r
+turn_is : (r : JournalRecord) → AreTurnParts r → IsTagged turn_tag r
 turn_is r (step, (count, ((len, fits), (sealed, same)))) =
     let each = in_order updates_split (inputs_of r) fits in
     let ranges = all_as IsUpdate IsInRange (λ u p. p.0) (inputs_of r) each.0 in
     let held = all_as IsUpdate IsHeld (λ u p. p.1) (inputs_of r) each.0 in
-    subst (λ (s : JournalRecord). IsTagged TURN s) (sym same) (refl, ((ranges, each.1, sealed.1), (step.1, held)))
+    subst (λ (s : JournalRecord). IsTagged turn_tag s) (sym same) (refl, ((ranges, each.1, sealed.1), (step.1, held)))
 
-turn_fits : (r : JournalRecord) → IsTagged TURN r → AreTurnParts r
+turn_fits : (r : JournalRecord) → IsTagged turn_tag r → AreTurnParts r
 turn_fits (Head version chart unit) h = absurd (omega arith)
 turn_fits (Admit request outer) h = absurd (omega arith)
 turn_fits (Turn step inputs sealed) (tag, (ranges, held)) =
     let each = each_fits updates_split inputs (all_both IsInRange IsHeld inputs ranges.0 held.1) ranges.1 in
     ((omega arith, held.0), ((omega arith, few_inputs inputs each), ((refl, each), ((omega arith, ranges.2), refl))))
 
-Reads-turn : Reads turn_at behind_tag (IsTagged TURN)
+Reads-turn : Reads turn_at behind_tag (IsTagged turn_tag)
 unfolding turn_at
 Reads-turn =
-    Reads-as behind_tag (IsTagged TURN)
+    Reads-as behind_tag (IsTagged turn_tag)
     (Reads-then step_of (Reads-number w32 (2 ^ 32) wide32 0 (2 ^ 32) (omega arith))
     (λ step step_fits. Reads-then (λ (r : JournalRecord). length (inputs_of r)) (Reads-byte 0 256)
     (λ n n_fits. Reads-then inputs_of (Reads-items Reads-update n None)
@@ -204,12 +204,12 @@ either false x y z e = inr e
 behind_tag_takes : (tag : ℕ) (bytes : List ℕ) (r : JournalRecord) (rest : List ℕ) → IsBytes bytes → record_at (tag ∷ bytes) ≡ Ok (r, rest) → Takes bytes (behind_tag r) rest × IsTagged tag r
 unfolding record_at
 behind_tag_takes tag bytes r rest fits e =
-    elim (either (eqb tag HEAD) (head_at bytes) _ (r, rest) e) [
-      | inl head ↦ subst (λ (t : ℕ). Takes bytes (behind_tag r) rest × IsTagged t r) (sym (eqb-true tag HEAD head.0)) (Reads-head.takes bytes r rest fits head.1)
-      | inr others ↦ elim (either (eqb tag ADMIT) (admit_at bytes) _ (r, rest) others) [
-        | inl admit ↦ subst (λ (t : ℕ). Takes bytes (behind_tag r) rest × IsTagged t r) (sym (eqb-true tag ADMIT admit.0)) (Reads-admit.takes bytes r rest fits admit.1)
-        | inr last ↦ elim (either (eqb tag TURN) (turn_at bytes) _ (r, rest) last) [
-          | inl turn ↦ subst (λ (t : ℕ). Takes bytes (behind_tag r) rest × IsTagged t r) (sym (eqb-true tag TURN turn.0)) (Reads-turn.takes bytes r rest fits turn.1)
+    elim (either (eqb tag head_tag) (head_at bytes) _ (r, rest) e) [
+      | inl head ↦ subst (λ (t : ℕ). Takes bytes (behind_tag r) rest × IsTagged t r) (sym (eqb-true tag head_tag head.0)) (Reads-head.takes bytes r rest fits head.1)
+      | inr others ↦ elim (either (eqb tag admit_tag) (admit_at bytes) _ (r, rest) others) [
+        | inl admit ↦ subst (λ (t : ℕ). Takes bytes (behind_tag r) rest × IsTagged t r) (sym (eqb-true tag admit_tag admit.0)) (Reads-admit.takes bytes r rest fits admit.1)
+        | inr last ↦ elim (either (eqb tag turn_tag) (turn_at bytes) _ (r, rest) last) [
+          | inl turn ↦ subst (λ (t : ℕ). Takes bytes (behind_tag r) rest × IsTagged t r) (sym (eqb-true tag turn_tag turn.0)) (Reads-turn.takes bytes r rest fits turn.1)
           | inr bad ↦ absurd cc
         ]
       ]

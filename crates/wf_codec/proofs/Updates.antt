@@ -6,7 +6,7 @@ use Rattle.wf_model.specs.declared.ids.StateId.{StateId}
 use Rattle.wf_model.specs.declared.ids.EventId.{EventId}
 use Rattle.wf_model.specs.declared.update.Write.{Write}
 use Rattle.wf_model.specs.declared.update.Update.{Update}
-use Rattle.wf_codec.specs.declared.update.TheConstants.{TAG}
+use Rattle.wf_codec.specs.Tags.{update_tag}
 use Rattle.wf_codec.specs.Spelling.{spelling_of}
 use Rattle.wf_codec.specs.Ranges.{chart_numbers, IsWrite, IsOuter, IsInRange, IsHeldValue, IsHeldOuter, IsHeld, IsUpdate}
 use Rattle.wf_codec.specs.Reading.{least_after}
@@ -34,7 +34,7 @@ IsNextUpdate before u = IsOver before u × IsUpdate u
 -- the parts as they are read
 abbrev AreRead : Option Update → Update → Type 0
 AreRead before u =
-    IsWithin TAG (TAG + 1) TAG × (IsOver before u × (IsWithin 1 (max_steps + 2) u.step
+    IsWithin update_tag (update_tag + 1) update_tag × (IsOver before u × (IsWithin 1 (max_steps + 2) u.step
     × (IsList IsNextState (max_states + 1) u.flips × (IsList IsNextWrite (2 ^ 16) u.writes × (IsList IsNextEvent (2 ^ 16) u.raised
     × (IsList IsNextStart (max_starts + 1) u.starts × (IsList IsNextTrans (max_fired + 1) u.fired × (IsList (λ b. IsWhole chart_numbers) (max_sealed + 1) u.outer × (u ≡ u)))))))))
 
@@ -89,7 +89,7 @@ pub Reads-update : (before : Option Update) → Reads (update_at chart_numbers b
 unfolding update_at spelling_of
 Reads-update before =
     Reads-as spelling_of (IsNextUpdate before)
-    (Reads-then (λ (u : Update). TAG) (Reads-byte TAG (TAG + 1))
+    (Reads-then (λ (u : Update). update_tag) (Reads-byte update_tag (update_tag + 1))
     (λ tag tag_fits. Reads-then (λ (u : Update). u.from.0) (Reads-byte (least_after (λ u. u.from.0) before) max_units)
     (λ from from_fits. Reads-then (λ (u : Update). u.step) (Reads-number w32 (2 ^ 32) wide32 1 (max_steps + 2) (omega arith))
     (λ step step_fits. Reads-then (λ (u : Update). u.flips) (Reads-list Reads-state (max_states + 1) (omega arith))

@@ -13,7 +13,7 @@ use Rattle.wf_model.specs.Txt.{is_text_char}
 use Rattle.wf_model.specs.declared.value.Val.{Val}
 use Rattle.wf_model.specs.declared.value.Val.TheVariants as v
 use Rattle.wf_codec.specs.declared.fault.Misfit.{Misfit}
-use Rattle.wf_codec.specs.declared.value.TheConstants.{BOOL, INT, TEXT}
+use Rattle.wf_codec.specs.Tags.{bool_sort, int_sort, text_sort}
 use Rattle.wf_codec.specs.Spelling.{truth, eight, value_spelling}
 use Rattle.wf_codec.specs.Ranges.{IsHeldValue}
 use Rattle.wf_codec.specs.Fields.{bool_at, int_at, text_at, value_at}
@@ -40,9 +40,9 @@ each_passes test before (c ∷ cs) h =
 -- ---- a value by its sort
 
 abbrev sort_of : Val → ℕ
-sort_of (v.Bool b) = BOOL
-sort_of (v.Int z) = INT
-sort_of (v.Text cs) = TEXT
+sort_of (v.Bool b) = bool_sort
+sort_of (v.Int z) = int_sort
+sort_of (v.Text cs) = text_sort
 
 abbrev behind_sort : Val → List ℕ
 behind_sort (v.Bool b) = truth b ∷ []
@@ -80,18 +80,18 @@ truth-read : (b : Bool) → v.Bool b ≡ v.Bool (eqb (truth b) 1)
 truth-read true = refl
 truth-read false = refl
 
-bool_fits : (x : Val) → IsOfSort BOOL x → IsWithin 0 2 (truth_of x) × (x ≡ v.Bool (eqb (truth_of x) 1))
+bool_fits : (x : Val) → IsOfSort bool_sort x → IsWithin 0 2 (truth_of x) × (x ≡ v.Bool (eqb (truth_of x) 1))
 bool_fits (v.Bool b) h = ((omega arith, truth-below b), truth-read b)
 bool_fits (v.Int z) h = absurd (omega arith)
 bool_fits (v.Text cs) h = absurd (omega arith)
 
-Reads-bool : Reads bool_at behind_sort (IsOfSort BOOL)
+Reads-bool : Reads bool_at behind_sort (IsOfSort bool_sort)
 unfolding bool_at
 Reads-bool =
-    Reads-as behind_sort (IsOfSort BOOL)
+    Reads-as behind_sort (IsOfSort bool_sort)
     (Reads-of truth_of (λ n. v.Bool (eqb n 1)) (Reads-byte 0 2) (λ n fit. truth-back n fit.1))
     (λ x fit. subst (λ (y : Val). one_byte (truth_of y) ≡ behind_sort y) (sym fit.1) refl)
-    (λ x fit. subst (λ (y : Val). IsOfSort BOOL y) (sym fit.1) (refl, tt))
+    (λ x fit. subst (λ (y : Val). IsOfSort bool_sort y) (sym fit.1) (refl, tt))
     bool_fits
 
 bits_fit : (n : ℕ) → n < 2 ^ 64 → FitsSigned w64 (cast_signed w64 n)
@@ -101,39 +101,39 @@ below_bits : (z : ℤ) → FitsSigned w64 z → cast_unsigned w64 z < 2 ^ 64
 below_bits (pos n) h = omega (arith, ints)
 below_bits (negsuc n) h = omega (arith, ints)
 
-int_fits : (x : Val) → IsOfSort INT x → IsWithin 0 (2 ^ 64) (integer_of x) × (x ≡ v.Int (cast_signed w64 (integer_of x)))
+int_fits : (x : Val) → IsOfSort int_sort x → IsWithin 0 (2 ^ 64) (integer_of x) × (x ≡ v.Int (cast_signed w64 (integer_of x)))
 int_fits (v.Bool b) h = absurd (omega arith)
 int_fits (v.Int z) h = ((omega arith, below_bits z h.1), ap v.Int (sym (to_z-of_z w64 z h.1)))
 int_fits (v.Text cs) h = absurd (omega arith)
 
-Reads-int : Reads int_at behind_sort (IsOfSort INT)
+Reads-int : Reads int_at behind_sort (IsOfSort int_sort)
 unfolding int_at
 Reads-int =
-    Reads-as behind_sort (IsOfSort INT)
+    Reads-as behind_sort (IsOfSort int_sort)
     (Reads-of integer_of (λ n. v.Int (cast_signed w64 n)) Reads-eight (λ n fit. of_z-to_z w64 n fit.1))
     (λ x fit. subst (λ (y : Val). to_be_bytes w64 (integer_of y) ≡ behind_sort y) (sym fit.1) refl)
-    (λ x fit. subst (λ (y : Val). IsOfSort INT y) (sym fit.1) (refl, bits_fit (integer_of x) fit.0.1))
+    (λ x fit. subst (λ (y : Val). IsOfSort int_sort y) (sym fit.1) (refl, bits_fit (integer_of x) fit.0.1))
     int_fits
 
-text_fits : (x : Val) → IsOfSort TEXT x
+text_fits : (x : Val) → IsOfSort text_sort x
     → IsWithin 0 (max_text + 1) (length (chars_of x)) × (((length (chars_of x) ≡ length (chars_of x)) × EachFits (λ b c. IsTrue (is_text_char c)) None (chars_of x)) × (x ≡ v.Text (chars_of x)))
 text_fits (v.Bool b) h = absurd (omega arith)
 text_fits (v.Int z) h = absurd (omega arith)
 text_fits (v.Text cs) h = ((omega arith, omega (arith, h.1.0)), ((refl, each_passes is_text_char None cs h.1.1), refl))
 
-Reads-text : Reads text_at behind_sort (IsOfSort TEXT)
+Reads-text : Reads text_at behind_sort (IsOfSort text_sort)
 unfolding text_at
 Reads-text =
-    Reads-as behind_sort (IsOfSort TEXT)
+    Reads-as behind_sort (IsOfSort text_sort)
     (Reads-then (λ x. length (chars_of x)) (Reads-byte 0 (max_text + 1))
     (λ n fit. Reads-of chars_of v.Text (Reads-items (λ before. Reads-that is_text_char) n None) (λ cs fits. refl))
     (λ n x fit fits. fits.0.0))
     (λ x fit. ap (λ (cs : List ℕ). length (chars_of x) ∷ cs) (each_one_byte (chars_of x)) ∙ subst (λ (y : Val). length (chars_of y) ∷ chars_of y ≡ behind_sort y) (sym fit.1.1) refl)
-    (λ x fit. subst (λ (y : Val). IsOfSort TEXT y) (sym fit.1.1) (refl, (omega (arith, fit.0.1), all_pass is_text_char None (chars_of x) fit.1.0.1)))
+    (λ x fit. subst (λ (y : Val). IsOfSort text_sort y) (sym fit.1.1) (refl, (omega (arith, fit.0.1), all_pass is_text_char None (chars_of x) fit.1.0.1)))
     text_fits
 
-Reads-sorted : (sort : ℕ) → IsWithin BOOL (TEXT + 1) sort
-    → Reads (λ bytes. cond {A = Result (Val × List ℕ) Misfit} (eqb sort BOOL) (bool_at bytes) (cond (eqb sort INT) (int_at bytes) (text_at bytes))) behind_sort (IsOfSort sort)
+Reads-sorted : (sort : ℕ) → IsWithin bool_sort (text_sort + 1) sort
+    → Reads (λ bytes. cond {A = Result (Val × List ℕ) Misfit} (eqb sort bool_sort) (bool_at bytes) (cond (eqb sort int_sort) (int_at bytes) (text_at bytes))) behind_sort (IsOfSort sort)
 Reads-sorted zero h = Reads-bool
 Reads-sorted (suc zero) h = Reads-int
 Reads-sorted (suc (suc zero)) h = Reads-text
@@ -145,7 +145,7 @@ sorted_spelling (v.Bool b) = refl
 sorted_spelling (v.Int z) = refl
 sorted_spelling (v.Text cs) = refl
 
-sort_within : (x : Val) → IsWithin BOOL (TEXT + 1) (sort_of x)
+sort_within : (x : Val) → IsWithin bool_sort (text_sort + 1) (sort_of x)
 sort_within (v.Bool b) = (omega arith, omega arith)
 sort_within (v.Int z) = (omega arith, omega arith)
 sort_within (v.Text cs) = (omega arith, omega arith)
@@ -154,5 +154,5 @@ pub Reads-value : Reads value_at value_spelling IsHeldValue
 unfolding value_at
 Reads-value =
     Reads-as value_spelling IsHeldValue
-    (Reads-then sort_of (Reads-byte BOOL (TEXT + 1)) (λ sort fit. Reads-sorted sort fit) (λ sort x fit fits. fits.0))
+    (Reads-then sort_of (Reads-byte bool_sort (text_sort + 1)) (λ sort fit. Reads-sorted sort fit) (λ sort x fit fits. fits.0))
     (λ x fit. sorted_spelling x) (λ x fit. fit.1.1) (λ x fit. (sort_within x, (refl, fit)))

@@ -19,9 +19,7 @@ use Rattle.wf_codec.specs.declared.fault.Misfit.TheVariants.{Short, Bad}
 use Rattle.wf_codec.specs.declared.fault.CodecFault.{CodecFault}
 use Rattle.wf_codec.specs.declared.fault.CodecFault.TheVariants as codec
 use Rattle.wf_codec.specs.declared.field.Numbers.{Numbers}
-use Rattle.wf_codec.specs.declared.value.TheConstants.{BOOL, INT, TEXT}
-use Rattle.wf_codec.specs.declared.outer.TheConstants.{HAPPEN, COMPLETE}
-use Rattle.wf_codec.specs.declared.update.TheConstants.{TAG}
+use Rattle.wf_codec.specs.Tags.{bool_sort, int_sort, text_sort, happen_kind, complete_kind, update_tag}
 use Rattle.wf_codec.specs.Ranges.{chart_numbers}
 use Rattle.wf_codec.specs.Reading.{◌>>=◌, byte_in, number_in, eight_at, items_at, bytes_that, least_after}
 
@@ -47,8 +45,8 @@ text_at bytes = do
 -- a value behind its sort
 unfoldable pub value_at : List ℕ → Result (Val × List ℕ) Misfit
 value_at bytes = do
-  sort ← byte_in BOOL (TEXT + 1) bytes
-  if sort.0 == BOOL then bool_at sort.1 else (if sort.0 == INT then int_at sort.1 else text_at sort.1)
+  sort ← byte_in bool_sort (text_sort + 1) bytes
+  if sort.0 == bool_sort then bool_at sort.1 else (if sort.0 == int_sort then int_at sort.1 else text_at sort.1)
 
 -- The items of lists, each behind the one before it, if there is one, and in an order.
 
@@ -121,8 +119,8 @@ completion_at numbers bytes = do
 -- an outer behind its kind
 unfoldable pub outer_at : Numbers → Option Outer → List ℕ → Result (Outer × List ℕ) Misfit
 outer_at numbers before bytes = do
-  kind ← byte_in HAPPEN (COMPLETE + 1) bytes
-  if kind.0 == HAPPEN then happening_at numbers kind.1 else completion_at numbers kind.1
+  kind ← byte_in happen_kind (complete_kind + 1) bytes
+  if kind.0 == happen_kind then happening_at numbers kind.1 else completion_at numbers kind.1
 
 -- a list behind its count, which is below a bound
 unfoldable pub list_at : {A : Type 0} → (Option A → List ℕ → Result (A × List ℕ) Misfit) → ℕ → List ℕ → Result (List A × List ℕ) Misfit
@@ -133,7 +131,7 @@ list_at item bound bytes = do
 -- an update of a unit with a number over that of the update before it
 unfoldable pub update_at : Numbers → Option Update → List ℕ → Result (Update × List ℕ) Misfit
 update_at numbers before bytes = do
-  tag ← byte_in TAG (TAG + 1) bytes
+  tag ← byte_in update_tag (update_tag + 1) bytes
   from ← byte_in (least_after (λ u. u.from.0) before) max_units tag.1
   step ← number_in w32 1 (max_steps + 2) from.1
   flips ← list_at state_at (max_states + 1) step.1
@@ -153,4 +151,4 @@ told len (Err (Bad left)) = Err (codec.BadField (len - left))
 -- the update that begins the bytes, or what is wrong with them
 unfoldable pub decoded : List ℕ → Result (Update × ℕ) CodecFault
 decoded [] = Err codec.Short
-decoded (tag ∷ rest) = if tag == TAG then told (suc (length rest)) (update_at chart_numbers None (tag ∷ rest)) else Err codec.BadTag
+decoded (tag ∷ rest) = if tag == update_tag then told (suc (length rest)) (update_at chart_numbers None (tag ∷ rest)) else Err codec.BadTag

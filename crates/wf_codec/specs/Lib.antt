@@ -1,8 +1,11 @@
+pub mod Tags
 pub mod Spelling
 pub mod Ranges
 pub mod Reading
 pub mod Fields
 pub mod Records
+pub mod Lengths
+pub mod Deciding
 pub mod Answers
 pub mod Finality
 pub mod Parts

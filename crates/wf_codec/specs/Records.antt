@@ -8,7 +8,7 @@ use Rattle.wf_codec.specs.declared.fault.Misfit.{Misfit}
 use Rattle.wf_codec.specs.declared.fault.Misfit.TheVariants.{Short, Bad}
 use Rattle.wf_codec.specs.declared.record.JournalRecord.{JournalRecord}
 use Rattle.wf_codec.specs.declared.record.JournalRecord.TheVariants.{Head, Admit, Turn}
-use Rattle.wf_codec.specs.declared.record.TheConstants.{HEAD, ADMIT, TURN}
+use Rattle.wf_codec.specs.Tags.{head_tag, admit_tag, turn_tag}
 use Rattle.wf_codec.specs.Spelling.{two, four, eight, outer_spelling, spelling_of}
 use Rattle.wf_codec.specs.Ranges.{chart_numbers, any_numbers, Ascend, IsOuter, IsHeldOuter, IsInRange, IsHeld}
 use Rattle.wf_codec.specs.Reading.{◌>>=◌, byte_in, number_in, eight_at, items_at, bytes_that}
@@ -24,9 +24,9 @@ named cs = length cs ∷ cs
 
 -- a tag and the fields
 unfoldable pub record_spelling : JournalRecord → List ℕ
-record_spelling (Head version chart unit) = HEAD ∷ version ∷ named chart ++ named unit
-record_spelling (Admit request outer) = ADMIT ∷ eight request ++ outer_spelling outer
-record_spelling (Turn step inputs sealed) = TURN ∷ four step ++ (length inputs ∷ flat_map spelling_of inputs ++ two sealed)
+record_spelling (Head version chart unit) = head_tag ∷ version ∷ named chart ++ named unit
+record_spelling (Admit request outer) = admit_tag ∷ eight request ++ outer_spelling outer
+record_spelling (Turn step inputs sealed) = turn_tag ∷ four step ++ (length inputs ∷ flat_map spelling_of inputs ++ two sealed)
 
 -- 1 to 32 characters that a head may have
 abbrev pub IsHeadName : List ℕ → Type 0
@@ -81,7 +81,7 @@ turn_at bytes = do
 -- a record at the front of the bytes, by its tag
 unfoldable pub record_at : List ℕ → Result (JournalRecord × List ℕ) Misfit
 record_at [] = Err Short
-record_at (tag ∷ rest) = if tag == HEAD then head_at rest else (if tag == ADMIT then admit_at rest else (if tag == TURN then turn_at rest else Err (Bad (suc (length rest)))))
+record_at (tag ∷ rest) = if tag == head_tag then head_at rest else (if tag == admit_tag then admit_at rest else (if tag == turn_tag then turn_at rest else Err (Bad (suc (length rest)))))
 
 -- the record that is the whole body
 abbrev pub whole : Result (JournalRecord × List ℕ) Misfit → Option JournalRecord

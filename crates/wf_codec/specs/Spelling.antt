@@ -13,9 +13,7 @@ use Rattle.wf_model.specs.declared.outer.Outer.TheVariants.{Happen, Complete}
 use Rattle.wf_model.specs.declared.update.Write.{Write}
 use Rattle.wf_model.specs.declared.update.StartAt.{StartAt}
 use Rattle.wf_model.specs.declared.update.Update.{Update}
-use Rattle.wf_codec.specs.declared.value.TheConstants.{BOOL, INT, TEXT}
-use Rattle.wf_codec.specs.declared.outer.TheConstants.{HAPPEN, COMPLETE}
-use Rattle.wf_codec.specs.declared.update.TheConstants.{TAG}
+use Rattle.wf_codec.specs.Tags.{bool_sort, int_sort, text_sort, happen_kind, complete_kind, update_tag}
 
 -- a number of two bytes
 abbrev pub two : ℕ → List ℕ
@@ -36,9 +34,9 @@ truth true = 1
 
 -- its sort, and then the truth, eight bytes in two's complement, or a length and the characters
 unfoldable pub value_spelling : Val → List ℕ
-value_spelling (v.Bool b) = BOOL ∷ truth b ∷ []
-value_spelling (v.Int z) = INT ∷ eight (cast_unsigned w64 z)
-value_spelling (v.Text cs) = TEXT ∷ length cs ∷ cs
+value_spelling (v.Bool b) = bool_sort ∷ truth b ∷ []
+value_spelling (v.Int z) = int_sort ∷ eight (cast_unsigned w64 z)
+value_spelling (v.Text cs) = text_sort ∷ length cs ∷ cs
 
 -- its number
 abbrev pub state_spelling : StateId → List ℕ
@@ -66,8 +64,8 @@ output_spelling o = two o.var.0 ++ value_spelling o.val
 
 -- its kind, and an event; or its kind, an item, its activity and the outputs behind their number
 unfoldable pub outer_spelling : Outer → List ℕ
-outer_spelling (Happen e) = HAPPEN ∷ two e.0
-outer_spelling (Complete item act outputs) = COMPLETE ∷ four item ++ (two act.0 ++ length outputs ∷ flat_map output_spelling outputs)
+outer_spelling (Happen e) = happen_kind ∷ two e.0
+outer_spelling (Complete item act outputs) = complete_kind ∷ four item ++ (two act.0 ++ length outputs ∷ flat_map output_spelling outputs)
 
 -- how many there are, and then each
 abbrev pub listed : {A : Type 0} → (A → List ℕ) → List A → List ℕ
@@ -76,5 +74,5 @@ listed spelling xs = two (length xs) ++ flat_map spelling xs
 -- the tag, who tells it of which step, and what changes
 unfoldable pub spelling_of : Update → List ℕ
 spelling_of u =
-    TAG ∷ u.from.0 ∷ four u.step ++ (listed state_spelling u.flips ++ (listed write_spelling u.writes ++ (listed event_spelling u.raised
+    update_tag ∷ u.from.0 ∷ four u.step ++ (listed state_spelling u.flips ++ (listed write_spelling u.writes ++ (listed event_spelling u.raised
     ++ (listed start_spelling u.starts ++ (listed trans_spelling u.fired ++ listed outer_spelling u.outer)))))

@@ -1,39 +1,32 @@
 //! Why bytes are refused.
 ghost use Rattle.std.specs.Prelude.{◌≡◌};
 
-use thiserror::Error;
 use wf_model::NoMemory;
 
 /// Why no update begins the bytes.
-#[derive(Clone, Copy, Debug, PartialEq, Eq, Error)]
+#[derive(Clone, Copy)]
 pub enum CodecFault {
     /// The bytes end before the last field does, and no field before is wrong.
-    #[error("the bytes end before the update does")]
     Short,
     /// The first byte isn't an update's.
-    #[error("the first byte is not an update's")]
     BadTag,
     /// The first field that is not in its range begins at this byte, counted from 0.
-    #[error("the field at byte {at} is not in its range")]
     BadField { at: usize },
     /// Memory ran out.
-    #[error("out of memory")]
     NoMemory,
 }
 
 /// Why a body is no record.
-#[derive(Clone, Copy, Debug, PartialEq, Eq, Error)]
+#[derive(Clone, Copy)]
 pub enum RecordFault {
     /// No record has this body.
-    #[error("no record has this body")]
     NotRecord,
     /// Memory ran out.
-    #[error("out of memory")]
     NoMemory,
 }
 
 /// What is wrong with bytes: the first fault from the left.
-#[derive(Clone, Copy, Debug, PartialEq, Eq)]
+#[derive(Clone, Copy)]
 pub enum Misfit {
     /// The bytes end before a field does.
     Short,
@@ -42,7 +35,7 @@ pub enum Misfit {
 }
 
 /// Why a field isn't read.
-#[derive(Clone, Copy, Debug, PartialEq, Eq)]
+#[derive(Clone, Copy)]
 pub enum FieldFault {
     NoMemory,
     Misfit(Misfit),

@@ -7,6 +7,7 @@ mod fault;
 mod field;
 mod finality;
 mod head;
+mod in_range;
 mod item;
 mod laws;
 mod number;
@@ -21,12 +22,11 @@ mod value;
 
 pub use fault::{CodecFault, RecordFault};
 pub use finality::{answer_is_final, fault_comes_at_once, fault_is_first, front_is_short};
+pub use in_range::is_in_range;
 pub use laws::{
-    one_record, one_spelling, record_is_decoded, spelled_is_decoded, spelling_is_short,
+    bytes_are_numbers, one_record, one_spelling, record_is_decoded, record_is_short,
+    spelled_is_decoded, spelling_is_short,
 };
 pub use record::{JournalRecord, decode_record, encode_record};
 pub use room::MAX_SPELLING;
 pub use update::{decode, encode};
-
-#[cfg(test)]
-mod tests;

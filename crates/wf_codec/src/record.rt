@@ -24,7 +24,7 @@ pub const ADMIT: u8 = b'A';
 pub const TURN: u8 = b'T';
 
 /// One record of a journal.
-#[derive(Debug, Drop)]
+#[derive(Drop)]
 pub enum JournalRecord {
     /// Whose journal it is.
     Head {

@@ -1,10 +1,7 @@
 //! The longest update: each of its lists is as long as it may be, and so is each text.
-use crate::outer::COMPLETE;
-use crate::update::TAG;
-use crate::value::TEXT;
-use crate::{MAX_SPELLING, decode, encode};
 use std::alloc::Global;
 use std::test::Fail;
+use wf_codec::{MAX_SPELLING, decode, encode};
 use wf_model::NoMemory;
 use wf_model::limits::{
     MAX_ACTIONS, MAX_ACTS, MAX_EVENTS, MAX_FIRED, MAX_OUTPUTS, MAX_SEALED, MAX_STARTS, MAX_STATES,
@@ -34,7 +31,7 @@ fn add_numbers(bytes: &mut Vec<u8>, count: u16) -> Result<(), NoMemory> {
 
 /// Adds a text of as many characters as it may have.
 fn add_text(bytes: &mut Vec<u8>) -> Result<(), NoMemory> {
-    bytes.extend_from_slice(&[TEXT, MAX_TEXT as u8])?;
+    bytes.extend_from_slice(&[2, MAX_TEXT as u8])?;
     for _ in 0..MAX_TEXT {
         bytes.push(b'~')?;
     }
@@ -73,7 +70,7 @@ fn add_starts(bytes: &mut Vec<u8>) -> Result<(), NoMemory> {
 
 /// Adds a completion with as many outputs as it may have.
 fn add_completion(bytes: &mut Vec<u8>, item: u32) -> Result<(), NoMemory> {
-    bytes.push(COMPLETE)?;
+    bytes.push(1)?;
     bytes.extend_from_slice(&item.to_be_bytes())?;
     add(bytes, LAST_ACT)?;
     bytes.push(MAX_OUTPUTS as u8)?;
@@ -96,7 +93,7 @@ fn add_outers(bytes: &mut Vec<u8>) -> Result<(), NoMemory> {
 /// The longest spelling of an update.
 fn longest(alloc: Global) -> Result<Vec<u8>, NoMemory> {
     let mut bytes = Vec::new(alloc);
-    bytes.extend_from_slice(&[TAG, MAX_UNITS as u8 - 1])?;
+    bytes.extend_from_slice(&[0x55, MAX_UNITS as u8 - 1])?;
     bytes.extend_from_slice(&(MAX_STEPS + 1).to_be_bytes())?;
     add_numbers(&mut bytes, MAX_STATES as u16)?;
     add_writes(&mut bytes)?;
@@ -111,7 +108,9 @@ fn longest(alloc: Global) -> Result<Vec<u8>, NoMemory> {
 fn the_longest_update_is_read_and_spelled(rt: HostRuntime) -> Result<(), Fail> {
     let bytes = longest(rt.alloc())?;
     assert_eq!(rt; bytes.len(), 87_488);
-    let (update, len) = decode(rt.alloc(), &bytes)?;
+    let Ok((update, len)) = decode(rt.alloc(), &bytes) else {
+        return Err(Fail::new("it is an update"));
+    };
     assert_eq!(rt; len, MAX_SPELLING);
     let again = encode(rt.alloc(), &update)?;
     assert!(rt; again.as_slice() == bytes.as_slice());

@@ -9,6 +9,6 @@ use Rattle.wf_audit.proofs.central.reply_to.Goals as goal
 pub returns-in_ok-notes-in-Step-clause-reply : goal.returns-in_ok-notes-in-Step-clause-reply
 unfolding reply_of
 returns-in_ok-notes-in-Step-clause-reply c =
-    step_is c.args.checked.now c.args.run.now.central c.args.run.now.pending c.taken.result c.in_ok-notes.notes
-    (c.taken.ensures ∙ ap (λ (k : Kept). k.taken) c.state.ensures ∙ c.in_ok-notes.ensures.taken) c.in_ok-notes.ensures.notes
+    step_is c.args.checked.now c.args.run.now.central c.args.run.now.pending c.taken.result c.in_ok-notes-in-Step.notes
+    (c.taken.ensures ∙ ap (λ (k : Kept). k.taken) c.state.ensures ∙ c.in_ok-notes-in-Step.ensures.taken) c.in_ok-notes-in-Step.ensures.notes
     ∙ ap (λ (line : CentralLine). reply_of c.args.checked.now (standing_of c.args.checked.now c.args.run.now) line) (sym c.in-Step.is)

@@ -3,4 +3,4 @@ use Rattle.wf_audit.proofs.Counted.{script_short}
 use Rattle.wf_top.proofs.central.answer_lines.Goals as goal
 
 pub run-requires : goal.run-requires
-run-requires c = omega (arith, ap length c.as_slice.ensures, script_short c.chart.result.now c.args.script.now c.in-Ok.lines c.in-Ok.ensures, c.requires.few)
+run-requires c = omega (arith, ap length c.as_slice.ensures, script_short c.args.chart.now c.args.script.now c.in-Ok.lines c.in-Ok.ensures, c.requires.few)

@@ -39,7 +39,6 @@ items_in units u = slice_index_or (map (λ i. i.items) units) u []
 abbrev pub steps_in : List UnitItems → ℕ → List ℕ
 steps_in units u = slice_index_or (map (λ i. i.steps) units) u []
 
-
 -- the activities at unit u, ascending
 abbrev pub acts_at : Chart → ℕ → List ActId
 acts_at chart u = map act_id (filter (is_act_at chart u) (range_with_len 0 (length chart.acts)))

@@ -21,10 +21,8 @@ pub fn checked_is_spelled(checked: &Checked)
 /// The canonical text of the chart means this chart, if it has at most as many tokens, or as many bytes, as a text may have tokens.
 /// Linear in the chart, and takes no memory.
 pub fn checked_is_read_back(checked: &Checked)
-    ensures few_tokens {
-        (tokens : List Token) → IsCut (chart_text checked.now) tokens → length tokens ≤ max_tokens →
-        Means (chart_text checked.now) checked.now
-    }
+    ensures few_tokens { (tokens : List Token) → IsCut (chart_text checked.now) tokens → length tokens ≤ max_tokens →
+        Means (chart_text checked.now) checked.now }
     ensures few_bytes { length (chart_text checked.now) ≤ max_tokens → Means (chart_text checked.now) checked.now }
 {
     chart_is_held(checked.chart());

@@ -28,7 +28,7 @@ use Rattle.wf_model.specs.Tree.{children}
 use Rattle.wf_model.specs.Accepted.{IsAccepted, is_named, all_of, is_unit, is_known_expr, is_known_action, is_known_activity, is_known_transition}
 use Rattle.wf_model.proofs.Bools.{and_both}
 use Rattle.wf_lex.specs.declared.token.TokenKind.TheVariants as token
-use Rattle.wf_lex.specs.Lex.{token_at, tokens_of}
+use Rattle.wf_lex.specs.Lex.{token_at}
 use Rattle.wf_lex.specs.Slices.{IsToken}
 use Rattle.wf_words.specs.Names.{unit_name, event_name, var_name, act_name, state_name}
 use Rattle.wf_print.specs.Words as words

@@ -1,9 +1,9 @@
 -- The canonical text of a chart, span by span.
-use Rattle.std.specs.Prelude.{ℕ, zero, suc, ◌+◌, ◌==◌, ◌++◌, Bool, true, false, ◌&&◌, nat_le, List, [], ◌∷◌, length, drop, flat_map, slice_get, Option, None, Some, pos, negsuc}
+use Rattle.std.specs.Prelude.{ℕ, zero, suc, ◌+◌, ◌==◌, ◌++◌, Bool, true, false, ◌&&◌, List, [], ◌∷◌, length, drop, flat_map, slice_get, Option, None, Some, pos, negsuc}
 use Rattle.std.specs.List.{list_all}
 use Rattle.std.specs.Fmt.{decimal}
 use lib.Chars.{codes}
-use Rattle.wf_model.specs.Limits.{max_depth, max_text}
+use Rattle.wf_model.specs.Limits.{max_depth}
 use Rattle.wf_model.specs.declared.ids.UnitId.{UnitId}
 use Rattle.wf_model.specs.declared.ids.EventId.{EventId}
 use Rattle.wf_model.specs.declared.value.Val.{Val}
@@ -19,8 +19,6 @@ use Rattle.wf_model.specs.declared.chart.Action.{Action}
 use Rattle.wf_model.specs.declared.chart.Action.TheVariants as act
 use Rattle.wf_model.specs.declared.chart.Transition.{Transition}
 use Rattle.wf_model.specs.declared.chart.Chart.{Chart}
-use Rattle.wf_model.specs.Txt.{is_text}
-use Rattle.wf_model.specs.Values.{fits_i64}
 use Rattle.wf_model.specs.Tree.{children, list_from}
 use Rattle.wf_model.specs.Accepted.{all_of}
 use Rattle.wf_lex.specs.declared.token.TokenKind.TheVariants as token

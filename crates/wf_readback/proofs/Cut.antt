@@ -1,7 +1,7 @@
 -- A text of blanks and tokens is cut into these tokens.
 use Rattle.std.proofs.Common.{◌≡◌, ℕ, ◌+◌, ◌-◌, Bool, true, false, List, [], ◌∷◌, ◌++◌, length, take, drop, map, refl, sym, ◌∙◌, ap, ap₂, subst, arith, append-nil, append_assoc, length-append}
 use Rattle.std.specs.List.{list_all, slice_range}
-use Rattle.std.proofs.lemmas.List.{drop_at, take_at, length-map}
+use Rattle.std.proofs.lemmas.List.{drop_at, take_at}
 use Rattle.wf_model.proofs.Bools.{and_both}
 use Rattle.wf_lex.specs.declared.token.Token.{Token}
 use Rattle.wf_lex.specs.Lex.{is_blank}
@@ -10,7 +10,6 @@ use Rattle.wf_grammar.specs.Lexemes.{Lexeme, lexeme_of}
 use Rattle.wf_readback.proofs.Spans.{Span, written, lexeme, lexemes_of, AreApart}
 use Rattle.wf_readback.proofs.Canon.{EveryWrittenIsCut}
 use Rattle.wf_readback.proofs.Kept.{token_kept}
-use Rattle.wf_readback.proofs.Slices.{answered}
 
 -- the tokens of spans that begin at this place
 abbrev tokens_at : ℕ → List Span → List Token

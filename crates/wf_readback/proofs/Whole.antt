@@ -1,5 +1,5 @@
 -- The rules of the reader read the whole of a canonical text.
-use Rattle.std.proofs.Common.{◌≡◌, ℕ, ◌+◌, ◌-◌, ◌≤◌, true, List, [], ◌∷◌, ◌++◌, length, take, drop, flat_map, slice_get, map, Option, Some, None, Ok, refl, sym, ◌∙◌, ap, ap₂, subst, arith, append-nil, length-append, append_assoc}
+use Rattle.std.proofs.Common.{◌≡◌, ℕ, ◌+◌, ◌-◌, ◌≤◌, true, List, [], ◌∷◌, ◌++◌, length, take, drop, flat_map, slice_get, map, Option, Some, None, Ok, refl, sym, ◌∙◌, ap, ap₂, subst, arith, append-nil, append_assoc}
 use Rattle.std.specs.Option.{option_map}
 use Rattle.std.proofs.lemmas.List.{take_all}
 use lib.Chars.{codes}
@@ -22,7 +22,6 @@ use Rattle.wf_cursor.specs.Pieces.{piece_of, word_piece}
 use Rattle.wf_cursor.specs.Input as input
 use Rattle.wf_cursor.specs.Input.{Input, start_of, chart_with, spelling, next}
 use Rattle.wf_words.specs.Names.{unit_name}
-use Rattle.wf_print.specs.ChartText.{chart_text}
 use Rattle.wf_print.specs.Nested.{depth}
 use Rattle.wf_text.specs.Text as text
 use Rattle.wf_text.specs.Declarations.{declarations}
@@ -32,7 +31,7 @@ use Rattle.wf_grammar.specs.Lexemes.{Lexeme, lexeme_of, lexemes}
 use Rattle.wf_grammar.specs.Phrases.{Is}
 use Rattle.wf_grammar.specs.Laws.{first_piece}
 use Rattle.wf_grammar.proofs.Inputs.{here, spelling_here, next_here}
-use Rattle.wf_readback.proofs.Spans.{Span, written, lexemes_of, AreApart}
+use Rattle.wf_readback.proofs.Spans.{Span, lexemes_of}
 use Rattle.wf_readback.proofs.ChartSpans as spans
 use Rattle.wf_readback.proofs.ChartSpans.{state_spans, transition_line, chart_spans, is_short}
 use Rattle.wf_readback.proofs.ChartNames.{has_names, name_piece, name_is_short}

@@ -4,4 +4,5 @@ pub mod Declarations
 pub mod States
 pub mod Transitions
 pub mod ChartText
+pub mod Lined
 pub mod Nested

@@ -10,4 +10,4 @@ mod transitions;
 mod words;
 
 pub use chart::print_chart;
-pub use laws::states_read;
+pub use laws::{states_read, text_is_lined};

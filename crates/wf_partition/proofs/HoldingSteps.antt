@@ -9,7 +9,7 @@ use Rattle.wf_model.specs.declared.chart.Chart.{Chart}
 use Rattle.wf_model.specs.Tree.{all_states, all_transitions, all_events, all_acts}
 use Rattle.wf_semantics.specs.Admission.{is_event_at, is_act_at}
 use Rattle.wf_scopes.proofs.Lines.{trans_get, source_read}
-use Rattle.wf_parts.specs.Known.{is_own, is_state_of}
+use Rattle.wf_parts.specs.Known.{is_state_of}
 use Rattle.wf_parts.specs.Reads.{action_assigns, may_raise, may_start}
 use Rattle.wf_partition.specs.declared.holding.Held.{Held}
 use Rattle.wf_partition.specs.Marked.{marked, Holds, has_at, gives_at, held_bits}

@@ -1,5 +1,5 @@
 -- What a unit knows, item by item.
-use Rattle.std.proofs.Common.{◌≡◌, ℕ, ◌+◌, ◌<◌, ◌==◌, ◌||◌, ◌&&◌, Bool, true, false, cond, List, ◌∷◌, ◌++◌, [], length, map, filter, get_or, Option, Some, sym, ◌∙◌, ap, ap₂, arith, append-nil, if◌then◌else◌}
+use Rattle.std.proofs.Common.{◌≡◌, ℕ, ◌+◌, ◌<◌, ◌==◌, ◌&&◌, Bool, true, false, cond, List, ◌∷◌, ◌++◌, [], length, map, filter, get_or, Option, Some, sym, ◌∙◌, ap, ap₂, append-nil, if◌then◌else◌}
 use Rattle.std.specs.List.{range_with_len, list_any, slice_get}
 use Rattle.std.specs.Option.{option_map_or, option_map}
 use Rattle.std.proofs.lemmas.Option.{slice_get-get_or}
@@ -7,26 +7,22 @@ use Rattle.wf_model.specs.declared.ids.TransId.{TransId}
 use Rattle.wf_parts.specs.declared.data.Component.{Component}
 use Rattle.wf_parts.specs.declared.data.Flat.{Flat}
 use Rattle.wf_parts.specs.declared.data.PartTransition.{PartTransition}
-use Rattle.wf_model.specs.declared.chart.State.{State}
-use Rattle.wf_model.specs.declared.chart.Event.{Event}
 use Rattle.wf_model.specs.declared.chart.Activity.{Activity}
 use Rattle.wf_model.specs.declared.chart.Transition.{Transition}
 use Rattle.wf_model.specs.declared.chart.Chart.{Chart}
-use Rattle.wf_model.specs.Tree.{all_states, all_transitions, all_acts, source}
+use Rattle.wf_model.specs.Tree.{source}
 use Rattle.wf_semantics.specs.Configuration.{is_in}
 use Rattle.wf_semantics.specs.Entry.{default_tree}
 use Rattle.wf_model.proofs.Rows.{row_at, row_get, row_len}
-use Rattle.wf_scopes.proofs.Lines.{state_get, trans_get, source_read, filter_more_by}
+use Rattle.wf_scopes.proofs.Lines.{trans_get, filter_more_by}
 use Rattle.wf_parts.specs.Components.{flat_of, component_of, blocker_ids}
 use Rattle.wf_parts.specs.Parts.{part_transition}
 use Rattle.wf_model.specs.declared.expr.Expr.{Expr}
 use Rattle.wf_model.specs.declared.chart.Action.{Action}
 use Rattle.wf_model.specs.Ids.{trans_id}
-use Rattle.wf_parts.specs.Reads.{assigns, is_on, reads_var, reads_act}
-use Rattle.wf_parts.specs.Known.{concerns, is_own, is_state_of, is_read, watches_state, knows_state, knows_var, knows_event, knows_act}
+use Rattle.wf_parts.specs.Reads.{is_on}
+use Rattle.wf_parts.specs.Known.{is_own, is_state_of}
 use Rattle.wf_partition.specs.Marked.{gives_at, triggers_at}
-use Rattle.wf_partition.proofs.Bits.{marked_row, or_assoc}
-use Rattle.wf_partition.proofs.Concerned.{any_below}
 
 -- a transition of a part, by what is copied
 abbrev pub the_transition : ℕ → Transition → Option Expr → List TransId → Bool → List Action → PartTransition

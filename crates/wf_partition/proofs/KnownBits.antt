@@ -1,6 +1,6 @@
 -- What each unit knows, as rows of bits.
-use Rattle.std.proofs.Common.{◌≡◌, ℕ, ◌<◌, ◌==◌, ◌||◌, ◌&&◌, Bool, false, List, length, map, get_or, Option, Some, refl, sym, ◌∙◌, ap, ap₂, arith}
-use Rattle.std.specs.List.{list_any, range_with_len, slice_get}
+use Rattle.std.proofs.Common.{◌≡◌, ℕ, ◌<◌, ◌==◌, ◌||◌, ◌&&◌, Bool, false, List, length, map, get_or, Option, sym, ◌∙◌, ap, ap₂, arith}
+use Rattle.std.specs.List.{list_any, range_with_len}
 use Rattle.std.specs.Option.{option_map_or, option_map}
 use Rattle.wf_model.specs.declared.chart.State.{State}
 use Rattle.wf_model.specs.declared.chart.Event.{Event}
@@ -10,8 +10,8 @@ use Rattle.wf_model.specs.Tree.{all_states, all_transitions, all_events, all_act
 use Rattle.wf_model.proofs.Rows.{row_at, row_len, row_agree}
 use Rattle.wf_semantics.specs.Admission.{is_event_at, is_act_at}
 use Rattle.wf_scopes.proofs.Lines.{state_get}
-use Rattle.wf_parts.specs.Reads.{is_on, reads_state, reads_var, reads_act}
-use Rattle.wf_parts.specs.Known.{concerns, is_state_of, is_such, is_read, watches_state, knows_state, knows_var, knows_event, knows_act}
+use Rattle.wf_parts.specs.Reads.{is_on, reads_var, reads_act}
+use Rattle.wf_parts.specs.Known.{concerns, is_state_of, is_such, is_read, watches_state, knows_var, knows_event, knows_act}
 use Rattle.wf_parts.specs.Peers.{held_by}
 use Rattle.wf_partition.specs.declared.reading.Reads.{Reads}
 use Rattle.wf_partition.specs.declared.holding.Held.{Held}

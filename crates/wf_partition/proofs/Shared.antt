@@ -1,5 +1,5 @@
 -- What peers know of what may stand in a unit's updates.
-use Rattle.std.proofs.Common.{◌≡◌, ℕ, zero, suc, ◌+◌, ◌<◌, ◌≤◌, ◌^◌, ◌==◌, ◌&&◌, not, Bool, true, false, cond, List, [], ◌∷◌, ◌++◌, length, map, filter, get_or, append-nil, refl, sym, ◌∙◌, ap, ap₂, arith}
+use Rattle.std.proofs.Common.{◌≡◌, ℕ, zero, suc, ◌+◌, ◌<◌, ◌^◌, ◌&&◌, Bool, true, false, cond, List, [], ◌∷◌, ◌++◌, length, map, filter, get_or, append-nil, refl, sym, ◌∙◌, ap, ap₂, arith}
 use Rattle.std.specs.List.{range_with_len}
 use Rattle.wf_model.specs.declared.ids.StateId.{StateId}
 use Rattle.wf_model.specs.declared.ids.VarId.{VarId}
@@ -15,7 +15,7 @@ use Rattle.wf_semantics.proofs.Facts.{chart_of}
 use Rattle.wf_scopes.proofs.Lines.{filter_more_by}
 use Rattle.wf_parts.specs.declared.data.Known.{Known}
 use Rattle.wf_parts.specs.Known.{concerns, watches_state, knows_state, knows_var, knows_event, knows_act}
-use Rattle.wf_parts.specs.Peers.{held_by, known_of, peers_of}
+use Rattle.wf_parts.specs.Peers.{held_by, known_of}
 use Rattle.wf_partition.specs.declared.holding.Held.{Held}
 use Rattle.wf_partition.specs.declared.knowing.UnitBits.{UnitBits}
 use Rattle.wf_partition.specs.Marked.{are_set, held_bits, unit_bits}

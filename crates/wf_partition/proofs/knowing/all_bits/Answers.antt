@@ -1,5 +1,4 @@
-use Rattle.std.proofs.Common.{◌∙◌, length, map, ap, arith}
-use Rattle.std.specs.List.{range_with_len}
+use Rattle.std.proofs.Common.{◌∙◌, length, ap, arith}
 use Rattle.wf_model.specs.declared.chart.Chart.{Chart}
 use Rattle.wf_model.proofs.Few.{few_units}
 use Rattle.wf_model.proofs.Rows.{row_more}

@@ -60,8 +60,10 @@ fn items(rt: HostRuntime) -> Result<(), Fail> {
     lists.push(List::from_slice(alloc, &[start(0, 2, 1), start(1, 2, 0)])?)?;
     lists.push(List::from_slice(alloc, &[start(2, 1, 3)])?)?;
     let all = starts(alloc, lists.as_slice())?;
+    let ordered = [start(2, 1, 3), start(1, 2, 0), start(0, 2, 1)];
+    assert!(rt; all.as_slice() == ordered.as_slice());
     let mut items = Items::new(alloc, UnitId(0));
-    items.grow(&[ActId(1), ActId(2)], 4, all.as_slice())?;
+    items.grow(&[ActId(1), ActId(2)], 4, &ordered)?;
     let copy = items.copy(alloc)?;
     assert!(rt; copy.started() == [(ActId(2), 4), (ActId(1), 4)].as_slice());
     Ok(())

@@ -1,4 +1,4 @@
-use Rattle.std.proofs.Common.{◌≤◌, ◌∙◌, length, sym, arith, rules}
+use Rattle.std.proofs.Common.{◌≤◌, ◌∙◌, length, sym, rules}
 use Rattle.wf_codec.proofs.Ordered.{order_ends}
 use Rattle.wf_codec.proofs.in_range.are_in_order.Goals as goal
 

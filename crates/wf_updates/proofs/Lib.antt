@@ -1,3 +1,4 @@
 mod Making
 mod NumberSets
 mod Cuts
+mod Rows

@@ -4,7 +4,9 @@
 
 mod cut;
 mod first;
+mod gather;
 mod sets;
+mod tables;
 mod view;
 
 pub use cut::relevant;

@@ -2,3 +2,4 @@ mod Making
 mod NumberSets
 mod Cuts
 mod Rows
+mod Tabled

@@ -51,7 +51,7 @@ among_more numbers i count bits new lt before now =
     now ∙ ap (λ (b : List Bool). set b n true) before ∙ set_from (is_among (take i numbers)) 0 count n n (omega arith)
     ∙ row_agree _ _ count (λ k below. sym (list_any_more (λ m. m == k) numbers i 0 lt))
 
-above_start : (s : ℕ) (ns : List ℕ) → s ≤ fold (λ past n. max past (n + 1)) s ns
+pub above_start : (s : ℕ) (ns : List ℕ) → s ≤ fold (λ past n. max past (n + 1)) s ns
 above_start s [] = omega arith
 above_start s (n ∷ ns) = omega (arith, above_start (max s (n + 1)) ns)
 

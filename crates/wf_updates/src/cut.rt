@@ -97,8 +97,8 @@ fn cut_completion(
     }
 }
 
-// An outer as far as it is known. In linear time in its outputs.
-fn cut_outer(alloc: Global, outer: &Outer, known: &KnownSets) -> Result<Option<Outer>, NoMemory>
+/// An outer as far as it is known. In linear time in its outputs.
+pub fn cut_outer(alloc: Global, outer: &Outer, known: &KnownSets) -> Result<Option<Outer>, NoMemory>
     ensures { IfOk result (λ cut. cut ≡ cut_outer (told_by known.now) outer.now) }
 {
     match outer {

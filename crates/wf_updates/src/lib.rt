@@ -2,6 +2,7 @@
 //! update each peer is sent.
 #![tactic(auto)]
 
+mod after;
 mod cut;
 mod first;
 mod gather;

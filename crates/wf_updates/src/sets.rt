@@ -19,8 +19,8 @@ pub struct KnownSets {
     pub acts: Bits,
 }
 
-// One past the greatest of these numbers.
-fn past_numbers(numbers: &[u32]) -> usize
+/// One past the greatest of these numbers. In linear time.
+pub fn past_numbers(numbers: &[u32]) -> usize
     ensures { result ≡ past_numbers numbers.now }
 {
     let mut past: usize = 0;

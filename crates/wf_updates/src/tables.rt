@@ -32,7 +32,11 @@ pub fn count_at(counts: &[u64], at: usize) -> u64
 }
 
 /// At each variable's number below the count the value of the last output of it. In linear time in the count and the outputs.
-pub fn last_below(alloc: Global, count: usize, outputs: &[Output]) -> Result<Vec<Option<Val>>, NoMemory>
+pub fn last_below(
+    alloc: Global,
+    count: usize,
+    outputs: &[Output],
+) -> Result<Vec<Option<Val>>, NoMemory>
     ensures { IfOk result (λ last. last.items ≡ map (last_of outputs.now) (range_with_len 0 count)) }
 {
     let mut last: Vec<Option<Val>> = vec![in alloc; None; count]?;
@@ -66,7 +70,11 @@ fn over(best: Option<Write>, write: Write) -> Write
 }
 
 /// At each variable's number below the count the write of it that stays. In linear time in the count and the writes.
-pub fn writes_below(alloc: Global, count: usize, writes: &[Write]) -> Result<Vec<Option<Write>>, NoMemory>
+pub fn writes_below(
+    alloc: Global,
+    count: usize,
+    writes: &[Write],
+) -> Result<Vec<Option<Write>>, NoMemory>
     ensures { IfOk result (λ best. best.items ≡ map (λ x. winner x writes.now) (range_with_len 0 count)) }
 {
     let mut best: Vec<Option<Write>> = vec![in alloc; None; count]?;

@@ -1,0 +1,5 @@
+mod Making
+mod NumberSets
+mod Cuts
+mod Rows
+mod Tabled

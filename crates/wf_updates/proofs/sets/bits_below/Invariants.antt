@@ -1,0 +1,7 @@
+use Rattle.std.proofs.Common.{◌≡◌, map, take}
+use Rattle.std.specs.List.{range_with_len}
+use Rattle.wf_updates.specs.Tables.{is_among}
+use Rattle.wf_updates.proofs.sets.bits_below.Given as goal
+
+abbrev pub invariant-loop-number : goal.invariant-loop-number
+invariant-loop-number l = l.bits ≡ map (is_among (take l.number-index l.numbers)) (range_with_len 0 l.count)

@@ -1,0 +1,292 @@
+//! The lists of a view after a step.
+ghost use Rattle.std.specs.Prelude.{◌≡◌, ◌+◌, ◌-◌, ◌<◌, ◌^◌, ◌==◌, ◌++◌, All, None, map, filter, filter_map, flat_map, slice_index, slice_index_or, unwrap_or, IfOk, OnOk};
+ghost use Rattle.std.specs.List.{list_any, range_with_len};
+ghost use Rattle.std.specs.Option.{option_map_or};
+ghost use Rattle.wf_model.specs.Bits.{bit};
+ghost use Rattle.wf_semantics.specs.Items.{done_count};
+ghost use Rattle.wf_views.specs.OwnSteps.{differs};
+ghost use Rattle.wf_views.specs.Knowledge.{cut_entry, cut_entries};
+ghost use Rattle.wf_views.specs.Views.{after_outputs, outputs_in, completions_in};
+ghost use Rattle.wf_views.specs.Absorbing.{is_flipped, is_raised, value_after, start_count, writes_in, starts_in, entries_in};
+ghost use Rattle.wf_updates.specs.Tables.{told_by};
+
+use crate::cut::cut_outer;
+use crate::gather::{all_flips, all_outputs, all_raised, all_starts, all_writes, completed_acts};
+use crate::sets::{
+    KnownSets, bits_below, event_numbers, known_events, known_states, past_numbers, set_of,
+    state_numbers,
+};
+use crate::tables::{count_at, counts_below, last_below, value_at, write_at, writes_below};
+use std::alloc::Global;
+use wf_model::{
+    ActId, Bits, Entry, EventId, List, NoMemory, Outer, Output, StartAt, StateId, UnitId, Update,
+    Val, Write,
+};
+use wf_parts::{KnownEvent, KnownState};
+
+// The set of these states.
+fn state_set(alloc: Global, ids: &[StateId]) -> Result<Bits, NoMemory>
+    ensures { IfOk result (λ bits. bit bits ≡ (λ s. list_any (λ id. id.0 == s) ids.now)) }
+{
+    let numbers = state_numbers(alloc, ids)?;
+    set_of(alloc, numbers.as_slice())
+}
+
+// For each state below the count, whether an update flips it.
+fn flipped_below(alloc: Global, count: usize, all: &[Update]) -> Result<Bits, NoMemory>
+    ensures { IfOk result (λ bits. bits ≡ map (is_flipped all.now) (range_with_len 0 count)) }
+{
+    let flips = all_flips(alloc, all)?;
+    let numbers = state_numbers(alloc, flips.as_slice())?;
+    bits_below(alloc, count, numbers.as_slice())
+}
+
+// Whether just one of the two holds.
+fn differs(one: bool, other: bool) -> bool
+    ensures { result ≡ differs one other }
+{
+    if one { !other } else { other }
+}
+
+// The known states that are in and not flipped, or flipped and not in.
+fn moved(
+    alloc: Global,
+    known: &[KnownState],
+    inside: &Bits,
+    flipped: &Bits,
+) -> Result<List<StateId>, NoMemory>
+    ensures { IfOk result (λ ids. ids ≡ map (λ known. known.id) (filter (λ known. differs (bit inside.now known.id.0) (bit flipped.now known.id.0)) known.now)) }
+{
+    let mut ids = List::new(alloc);
+    for state in known {
+        let at = state.id.0 as usize;
+        if differs(inside.has(at), flipped.has(at)) {
+            ids.push(state.id)?;
+        }
+    }
+    Ok(ids)
+}
+
+/// The known states that are in after the step. In linear time.
+pub fn states_after(
+    alloc: Global,
+    known: &[KnownState],
+    before: &[StateId],
+    all: &[Update],
+) -> Result<List<StateId>, NoMemory>
+    ensures { IfOk result (λ ids. ids ≡ map (λ known. known.id) (filter (λ known. differs (list_any (λ id. id.0 == known.id.0) before.now) (is_flipped all.now known.id.0)) known.now)) }
+{
+    let inside = state_set(alloc, before)?;
+    let numbers = known_states(alloc, known)?;
+    let flipped = flipped_below(alloc, past_numbers(numbers.as_slice()), all)?;
+    moved(alloc, known, &inside, &flipped)
+}
+
+// For each event below the count, whether an update raises it.
+fn raised_below(alloc: Global, count: usize, all: &[Update]) -> Result<Bits, NoMemory>
+    ensures { IfOk result (λ bits. bits ≡ map (is_raised all.now) (range_with_len 0 count)) }
+{
+    let raised = all_raised(alloc, all)?;
+    let numbers = event_numbers(alloc, raised.as_slice())?;
+    bits_below(alloc, count, numbers.as_slice())
+}
+
+// The known events whose bit is set.
+fn events_among(
+    alloc: Global,
+    known: &[KnownEvent],
+    raised: &Bits,
+) -> Result<List<EventId>, NoMemory>
+    ensures { IfOk result (λ ids. ids ≡ map (λ known. known.id) (filter (λ known. bit raised.now known.id.0) known.now)) }
+{
+    let mut ids = List::new(alloc);
+    for event in known {
+        if raised.has(event.id.0 as usize) {
+            ids.push(event.id)?;
+        }
+    }
+    Ok(ids)
+}
+
+/// The known events that the step raises. In linear time.
+pub fn raised_after(
+    alloc: Global,
+    known: &[KnownEvent],
+    all: &[Update],
+) -> Result<List<EventId>, NoMemory>
+    ensures { IfOk result (λ ids. ids ≡ map (λ known. known.id) (filter (λ known. is_raised all.now known.id.0) known.now)) }
+{
+    let numbers = known_events(alloc, known)?;
+    let raised = raised_below(alloc, past_numbers(numbers.as_slice()), all)?;
+    events_among(alloc, known, &raised)
+}
+
+// The numbers of the variables. In linear time.
+fn output_numbers(alloc: Global, outputs: &[Output]) -> Result<Vec<u32>, NoMemory>
+    ensures { IfOk result (λ numbers. numbers.items ≡ map (λ it. it.var.0) outputs.now) }
+{
+    let numbers: Vec<u32> = outputs.iter().map(|it| it.var.0).collect(alloc)?;
+    Ok(numbers)
+}
+
+// The value by the write that stays, else by the last output, else the one before.
+fn value_from(best: Option<Write>, last: Option<Val>, before: Val) -> Val
+    ensures { result ≡ option_map_or (λ write. write.val) best (unwrap_or last before) }
+{
+    match best {
+        Some(write) => write.val,
+        None => last.unwrap_or(before),
+    }
+}
+
+// The variables with their values, by these tables.
+fn values_by(
+    alloc: Global,
+    vars: &[Output],
+    last: &[Option<Val>],
+    best: &[Option<Write>],
+) -> Result<List<Output>, NoMemory>
+    ensures { IfOk result (λ values. values ≡ map (λ o. record { var = o.var; val = option_map_or (λ write. write.val) (slice_index_or best.now o.var.0 None) (unwrap_or (slice_index_or last.now o.var.0 None) o.val) }) vars.now) }
+{
+    let mut values = List::new(alloc);
+    for it in vars {
+        let at = it.var.0 as usize;
+        let val = value_from(write_at(best, at), value_at(last, at), it.val);
+        values.push(Output { var: it.var, val })?;
+    }
+    Ok(values)
+}
+
+/// The variables with their values after the step: by the write that stays, else by the last output, else as before. In linear
+/// time.
+pub fn vars_after(
+    alloc: Global,
+    vars: &[Output],
+    next: &[Entry],
+    all: &[Update],
+) -> Result<List<Output>, NoMemory>
+    ensures { IfOk result (λ values. values ≡ map (λ o. record { var = o.var; val = value_after (writes_in all.now) o.var.0 (after_outputs o.var.0 (outputs_in next.now) o.val) }) vars.now) }
+{
+    let numbers = output_numbers(alloc, vars)?;
+    let count = past_numbers(numbers.as_slice());
+    let outputs = all_outputs(alloc, next)?;
+    let last = last_below(alloc, count, outputs.as_slice())?;
+    let writes = all_writes(alloc, all)?;
+    let best = writes_below(alloc, count, writes.as_slice())?;
+    values_by(alloc, vars, last.as_slice(), best.as_slice())
+}
+
+// The numbers of the activities. In linear time.
+fn open_numbers(alloc: Global, unclosed: &[(ActId, u32)]) -> Result<Vec<u32>, NoMemory>
+    ensures { IfOk result (λ numbers. numbers.items ≡ map (λ it. it.0.0) unclosed.now) }
+{
+    let mut numbers = Vec::new(alloc);
+    for (act, _) in unclosed {
+        numbers.push(act.0)?;
+    }
+    Ok(numbers)
+}
+
+// The numbers of the activities that are started. In linear time.
+fn start_numbers(alloc: Global, starts: &[StartAt]) -> Result<Vec<u32>, NoMemory>
+    ensures { IfOk result (λ numbers. numbers.items ≡ map (λ it. it.act.0) starts.now) }
+{
+    let numbers: Vec<u32> = starts.iter().map(|it| it.act.0).collect(alloc)?;
+    Ok(numbers)
+}
+
+// For each activity below the count, how many items the entries complete.
+fn done_below(alloc: Global, count: usize, next: &[Entry]) -> Result<Vec<u64>, NoMemory>
+    ensures { IfOk result (λ counts. counts.items ≡ map (λ a. done_count a (completions_in next.now)) (range_with_len 0 count)) }
+{
+    let numbers = completed_acts(alloc, next)?;
+    counts_below(alloc, count, numbers.as_slice())
+}
+
+// For each activity below the count, how many items the updates start.
+fn started_below(alloc: Global, count: usize, all: &[Update]) -> Result<Vec<u64>, NoMemory>
+    ensures { IfOk result (λ counts. counts.items ≡ map (λ a. start_count a (starts_in all.now)) (range_with_len 0 count)) }
+{
+    let starts = all_starts(alloc, all)?;
+    let numbers = start_numbers(alloc, starts.as_slice())?;
+    counts_below(alloc, count, numbers.as_slice())
+}
+
+// How many are open, once these were done and those started.
+fn count_after(before: u32, done: u64, started: u64) -> u32
+    requires { before - done + started < 2 ^ 32 }
+    ensures { result ≡ before - done + started }
+{
+    (u64::from(before).saturating_sub(done) + started) as u32
+}
+
+// The activities with their counts, by these tables.
+fn counts_by(
+    alloc: Global,
+    unclosed: &[(ActId, u32)],
+    done: &[u64],
+    started: &[u64],
+) -> Result<List<(ActId, u32)>, NoMemory>
+    requires { All (λ a. a.1 - slice_index done.now a.0.0 + slice_index started.now a.0.0 < 2 ^ 32) unclosed.now }
+    ensures { IfOk result (λ counts. counts ≡ map (λ a. (a.0, a.1 - slice_index done.now a.0.0 + slice_index started.now a.0.0)) unclosed.now) }
+{
+    let mut counts = List::new(alloc);
+    for (act, before) in unclosed {
+        let at = act.0 as usize;
+        let now = count_after(*before, count_at(done, at), count_at(started, at));
+        counts.push((*act, now))?;
+    }
+    Ok(counts)
+}
+
+/// The activities, each with how many of its items are open after the step. In linear time.
+pub fn unclosed_after(
+    alloc: Global,
+    unclosed: &[(ActId, u32)],
+    next: &[Entry],
+    all: &[Update],
+) -> Result<List<(ActId, u32)>, NoMemory>
+    requires { All (λ a. a.1 - done_count a.0.0 (completions_in next.now) + start_count a.0.0 (starts_in all.now) < 2 ^ 32) unclosed.now }
+    ensures { IfOk result (λ counts. counts ≡ map (λ a. (a.0, a.1 - done_count a.0.0 (completions_in next.now) + start_count a.0.0 (starts_in all.now))) unclosed.now) }
+{
+    let numbers = open_numbers(alloc, unclosed)?;
+    let count = past_numbers(numbers.as_slice());
+    let done = done_below(alloc, count, next)?;
+    let started = started_below(alloc, count, all)?;
+    counts_by(alloc, unclosed, done.as_slice(), started.as_slice())
+}
+
+// Adds the outers of a unit as entries, as far as they are known. After `NoMemory` some may have been added.
+fn add_entries(
+    alloc: Global,
+    entries: &mut List<Entry>,
+    unit: UnitId,
+    outers: &[Outer],
+    known: &KnownSets,
+) -> Result<(), NoMemory>
+    ensures { OnOk result (entries.new ≡ entries.old ++ filter_map (λ outer. cut_entry (told_by known.now) (record { unit = unit; outer = outer })) outers.now) }
+{
+    for outer in outers {
+        if let Some(outer) = cut_outer(alloc, outer, known)? {
+            entries.push(Entry { unit, outer })?;
+        }
+    }
+    Ok(())
+}
+
+/// The entries of the next step, as far as they are known. In linear time.
+pub fn next_after(alloc: Global, all: &[Update], known: &KnownSets) -> Result<List<Entry>, NoMemory>
+    ensures { IfOk result (λ entries. entries ≡ cut_entries (told_by known.now) (entries_in all.now)) }
+{
+    let mut entries = List::new(alloc);
+    for update in all {
+        add_entries(
+            alloc,
+            &mut entries,
+            update.from,
+            update.outer.as_slice(),
+            known,
+        )?;
+    }
+    Ok(entries)
+}

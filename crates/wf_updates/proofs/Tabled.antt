@@ -1,6 +1,5 @@
 -- What is read of tables is what is searched for.
 use Rattle.std.proofs.Common.{◌≡◌, ℕ, ◌+◌, ◌-◌, ◌<◌, ◌==◌, max, Bool, true, false, cond, List, [], ◌∷◌, ◌++◌, length, map, take, filter, filter_map, flat_map, fold, get_or, unwrap_or, Option, Some, None, All, refl, sym, ◌∙◌, ap, ap₂, arith}
-use Rattle.std.specs.Prelude.{option_map}
 use Rattle.std.specs.Option.{option_map_or}
 use Rattle.std.specs.List.{range_with_len, list_any, cons_option}
 use Rattle.std.proofs.lemmas.List.{take_more, append-nil, append_assoc}
@@ -8,7 +7,7 @@ use Rattle.std.proofs.lemmas.List.Elements.{filter_map-append, All-nil, All-cons
 use Rattle.std.proofs.lemmas.Grind.{flat_map-append}
 use Rattle.wf_model.specs.Bits.{bit}
 use Rattle.wf_model.proofs.Bools.{any_map, any_flat_map}
-use Rattle.wf_model.proofs.Rows.{row_at, row_agree}
+use Rattle.wf_model.proofs.Rows.{row_at}
 use Rattle.wf_model.specs.declared.ids.ActId.{ActId}
 use Rattle.wf_model.specs.declared.ids.StateId.{StateId}
 use Rattle.wf_model.specs.declared.value.Val.{Val}

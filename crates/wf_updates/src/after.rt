@@ -12,15 +12,15 @@ ghost use Rattle.wf_updates.specs.Tables.{told_by};
 
 use crate::cut::cut_outer;
 use crate::gather::{all_flips, all_outputs, all_raised, all_starts, all_writes, completed_acts};
-use crate::sets::{
-    KnownSets, bits_below, event_numbers, known_events, known_states, past_numbers, set_of,
-    state_numbers,
+use crate::numbers::{
+    event_numbers, known_events, known_states, open_numbers, output_numbers, past_numbers,
+    start_numbers, state_numbers,
 };
+use crate::sets::{KnownSets, bits_below, set_of};
 use crate::tables::{count_at, counts_below, last_below, value_at, write_at, writes_below};
 use std::alloc::Global;
 use wf_model::{
-    ActId, Bits, Entry, EventId, List, NoMemory, Outer, Output, StartAt, StateId, UnitId, Update,
-    Val, Write,
+    ActId, Bits, Entry, EventId, List, NoMemory, Outer, Output, StateId, UnitId, Update, Val, Write,
 };
 use wf_parts::{KnownEvent, KnownState};
 
@@ -121,14 +121,6 @@ pub fn raised_after(
     events_among(alloc, known, &raised)
 }
 
-// The numbers of the variables. In linear time.
-fn output_numbers(alloc: Global, outputs: &[Output]) -> Result<Vec<u32>, NoMemory>
-    ensures { IfOk result (λ numbers. numbers.items ≡ map (λ it. it.var.0) outputs.now) }
-{
-    let numbers: Vec<u32> = outputs.iter().map(|it| it.var.0).collect(alloc)?;
-    Ok(numbers)
-}
-
 // The value by the write that stays, else by the last output, else the one before.
 fn value_from(best: Option<Write>, last: Option<Val>, before: Val) -> Val
     ensures { result ≡ option_map_or (λ write. write.val) best (unwrap_or last before) }
@@ -174,25 +166,6 @@ pub fn vars_after(
     let writes = all_writes(alloc, all)?;
     let best = writes_below(alloc, count, writes.as_slice())?;
     values_by(alloc, vars, last.as_slice(), best.as_slice())
-}
-
-// The numbers of the activities. In linear time.
-fn open_numbers(alloc: Global, unclosed: &[(ActId, u32)]) -> Result<Vec<u32>, NoMemory>
-    ensures { IfOk result (λ numbers. numbers.items ≡ map (λ it. it.0.0) unclosed.now) }
-{
-    let mut numbers = Vec::new(alloc);
-    for (act, _) in unclosed {
-        numbers.push(act.0)?;
-    }
-    Ok(numbers)
-}
-
-// The numbers of the activities that are started. In linear time.
-fn start_numbers(alloc: Global, starts: &[StartAt]) -> Result<Vec<u32>, NoMemory>
-    ensures { IfOk result (λ numbers. numbers.items ≡ map (λ it. it.act.0) starts.now) }
-{
-    let numbers: Vec<u32> = starts.iter().map(|it| it.act.0).collect(alloc)?;
-    Ok(numbers)
 }
 
 // For each activity below the count, how many items the entries complete.

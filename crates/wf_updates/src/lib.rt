@@ -6,6 +6,7 @@ mod after;
 mod cut;
 mod first;
 mod gather;
+mod numbers;
 mod sets;
 mod tables;
 mod view;

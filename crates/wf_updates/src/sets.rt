@@ -4,11 +4,15 @@ ghost use Rattle.std.specs.List.{range_with_len};
 ghost use Rattle.wf_model.specs.Bits.{bit};
 ghost use Rattle.wf_views.specs.Knowledge.{known_to};
 ghost use Rattle.wf_views.specs.Relevant.{is_listed, nothing};
-ghost use Rattle.wf_updates.specs.Tables.{past_numbers, is_among, told_by};
+ghost use Rattle.wf_updates.specs.Tables.{is_among, told_by};
 
+use crate::numbers::{
+    act_numbers, event_numbers, known_acts, known_events, known_states, known_vars, past_numbers,
+    state_numbers, var_numbers,
+};
 use std::alloc::Global;
-use wf_model::{ActId, Bits, EventId, NoMemory, StateId, VarId};
-use wf_parts::{Known, KnownActivity, KnownEvent, KnownState, KnownVariable, PartData};
+use wf_model::{Bits, NoMemory};
+use wf_parts::{Known, PartData};
 
 /// What is known, as sets of numbers.
 #[derive(Drop)]
@@ -17,17 +21,6 @@ pub struct KnownSets {
     pub vars: Bits,
     pub events: Bits,
     pub acts: Bits,
-}
-
-/// One past the greatest of these numbers. In linear time.
-pub fn past_numbers(numbers: &[u32]) -> usize
-    ensures { result ≡ past_numbers numbers.now }
-{
-    let mut past: usize = 0;
-    for number in numbers {
-        past = past.max(*number as usize + 1);
-    }
-    past
 }
 
 /// A bit for each number below the count: whether it is among these numbers. In linear time in the count and the numbers.
@@ -46,70 +39,6 @@ pub fn set_of(alloc: Global, numbers: &[u32]) -> Result<Bits, NoMemory>
     ensures { IfOk result (λ bits. bit bits ≡ is_among numbers.now) }
 {
     bits_below(alloc, past_numbers(numbers), numbers)
-}
-
-/// The numbers of these states. In linear time.
-pub fn state_numbers(alloc: Global, ids: &[StateId]) -> Result<Vec<u32>, NoMemory>
-    ensures { IfOk result (λ numbers. numbers.items ≡ map (λ it. it.0) ids.now) }
-{
-    let numbers: Vec<u32> = ids.iter().map(|it| it.0).collect(alloc)?;
-    Ok(numbers)
-}
-
-// The numbers of these variables. In linear time.
-fn var_numbers(alloc: Global, ids: &[VarId]) -> Result<Vec<u32>, NoMemory>
-    ensures { IfOk result (λ numbers. numbers.items ≡ map (λ it. it.0) ids.now) }
-{
-    let numbers: Vec<u32> = ids.iter().map(|it| it.0).collect(alloc)?;
-    Ok(numbers)
-}
-
-/// The numbers of these events. In linear time.
-pub fn event_numbers(alloc: Global, ids: &[EventId]) -> Result<Vec<u32>, NoMemory>
-    ensures { IfOk result (λ numbers. numbers.items ≡ map (λ it. it.0) ids.now) }
-{
-    let numbers: Vec<u32> = ids.iter().map(|it| it.0).collect(alloc)?;
-    Ok(numbers)
-}
-
-// The numbers of these activities. In linear time.
-fn act_numbers(alloc: Global, ids: &[ActId]) -> Result<Vec<u32>, NoMemory>
-    ensures { IfOk result (λ numbers. numbers.items ≡ map (λ it. it.0) ids.now) }
-{
-    let numbers: Vec<u32> = ids.iter().map(|it| it.0).collect(alloc)?;
-    Ok(numbers)
-}
-
-/// The numbers of these states. In linear time.
-pub fn known_states(alloc: Global, known: &[KnownState]) -> Result<Vec<u32>, NoMemory>
-    ensures { IfOk result (λ numbers. numbers.items ≡ map (λ it. it.id.0) known.now) }
-{
-    let numbers: Vec<u32> = known.iter().map(|it| it.id.0).collect(alloc)?;
-    Ok(numbers)
-}
-
-// The numbers of these variables. In linear time.
-fn known_vars(alloc: Global, known: &[KnownVariable]) -> Result<Vec<u32>, NoMemory>
-    ensures { IfOk result (λ numbers. numbers.items ≡ map (λ it. it.id.0) known.now) }
-{
-    let numbers: Vec<u32> = known.iter().map(|it| it.id.0).collect(alloc)?;
-    Ok(numbers)
-}
-
-/// The numbers of these events. In linear time.
-pub fn known_events(alloc: Global, known: &[KnownEvent]) -> Result<Vec<u32>, NoMemory>
-    ensures { IfOk result (λ numbers. numbers.items ≡ map (λ it. it.id.0) known.now) }
-{
-    let numbers: Vec<u32> = known.iter().map(|it| it.id.0).collect(alloc)?;
-    Ok(numbers)
-}
-
-// The numbers of these activities. In linear time.
-fn known_acts(alloc: Global, known: &[KnownActivity]) -> Result<Vec<u32>, NoMemory>
-    ensures { IfOk result (λ numbers. numbers.items ≡ map (λ it. it.id.0) known.now) }
-{
-    let numbers: Vec<u32> = known.iter().map(|it| it.id.0).collect(alloc)?;
-    Ok(numbers)
 }
 
 impl KnownSets {

@@ -1,4 +1,4 @@
-use Rattle.std.proofs.Common.{◌≡◌, ◌+◌, ◌-◌, ◌++◌, None, map, filter, filter_map, take, slice_index, slice_index_or, unwrap_or}
+use Rattle.std.proofs.Common.{◌≡◌, ◌++◌, filter_map, take}
 use Rattle.wf_views.specs.Knowledge.{cut_entry}
 use Rattle.wf_updates.specs.Tables.{told_by}
 use Rattle.wf_updates.proofs.after.add_entries.Given as goal

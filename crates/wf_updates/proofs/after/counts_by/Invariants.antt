@@ -1,4 +1,4 @@
-use Rattle.std.proofs.Common.{◌≡◌, ◌+◌, ◌-◌, ◌++◌, None, map, filter, filter_map, take, slice_index, slice_index_or, unwrap_or}
+use Rattle.std.proofs.Common.{◌≡◌, ◌+◌, ◌-◌, map, take, slice_index}
 use Rattle.wf_updates.proofs.after.counts_by.Given as goal
 
 abbrev pub invariant-loop-act : goal.invariant-loop-act

@@ -1,4 +1,4 @@
-use Rattle.std.proofs.Common.{◌≡◌, ◌+◌, ◌-◌, ◌++◌, None, map, filter, filter_map, take, slice_index, slice_index_or, unwrap_or}
+use Rattle.std.proofs.Common.{◌≡◌, map, filter, take}
 use Rattle.wf_model.specs.Bits.{bit}
 use Rattle.wf_updates.proofs.after.events_among.Given as goal
 

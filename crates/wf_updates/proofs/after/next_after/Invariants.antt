@@ -1,4 +1,4 @@
-use Rattle.std.proofs.Common.{◌≡◌, ◌+◌, ◌-◌, ◌++◌, None, map, filter, filter_map, take, slice_index, slice_index_or, unwrap_or}
+use Rattle.std.proofs.Common.{◌≡◌, take}
 use Rattle.wf_views.specs.Knowledge.{cut_entries}
 use Rattle.wf_views.specs.Absorbing.{entries_in}
 use Rattle.wf_updates.specs.Tables.{told_by}

@@ -1,4 +1,4 @@
-use Rattle.std.proofs.Common.{◌≡◌, refl, ℕ, Bool, List, ◌==◌}
+use Rattle.std.proofs.Common.{◌≡◌, refl, ◌==◌}
 use Rattle.std.specs.List.{list_any}
 use Rattle.std.proofs.lemmas.Result.{IfOk-weaker}
 use Rattle.wf_model.specs.Bits.{bit}

@@ -1,4 +1,4 @@
-use Rattle.std.proofs.Common.{◌≡◌, ◌+◌, ◌-◌, ◌++◌, None, map, filter, filter_map, take, slice_index, slice_index_or, unwrap_or}
+use Rattle.std.proofs.Common.{◌≡◌, None, map, take, slice_index_or, unwrap_or}
 use Rattle.std.specs.Option.{option_map_or}
 use Rattle.wf_updates.proofs.after.values_by.Given as goal
 

@@ -2,8 +2,6 @@ use Rattle.std.proofs.Common.{◌≡◌, ◌∙◌, None, map, unwrap_or, ap, sl
 use Rattle.std.specs.List.{range_with_len}
 use Rattle.std.specs.Option.{option_map_or}
 use Rattle.std.proofs.lemmas.Result.{IfOk-weaker}
-use Rattle.wf_model.specs.declared.outer.Output.{Output}
-use Rattle.wf_model.specs.declared.update.Write.{Write}
 use Rattle.wf_actions.specs.Writes.{winner}
 use Rattle.wf_views.specs.Views.{after_outputs, outputs_in}
 use Rattle.wf_views.specs.Absorbing.{value_after, writes_in}

@@ -1,6 +1,4 @@
-use Rattle.std.proofs.Common.{◌≡◌, ◌∙◌, ℕ, List, ap, take, length, get_or, set, arith, map, ◌+◌, ◌≤◌, refl, sym}
-use Rattle.std.specs.List.{range_with_len}
-use Rattle.std.specs.Vec.{with_item}
+use Rattle.std.proofs.Common.{◌∙◌, ℕ, ap, take, get_or, arith, ◌+◌, refl, sym}
 use Rattle.wf_model.proofs.Rows.{row_at, row_len}
 use Rattle.wf_updates.specs.Tables.{count_of}
 use Rattle.wf_updates.proofs.Rows.{row_same, row_step, row_stays, count_here, count_other, count_small}

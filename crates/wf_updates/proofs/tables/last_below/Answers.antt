@@ -1,7 +1,5 @@
-use Rattle.std.proofs.Common.{◌≡◌, ◌∙◌, List, Option, Some, None, ap, take, length, get_or, set, arith, map, ◌+◌, rules, refl}
+use Rattle.std.proofs.Common.{◌≡◌, ◌∙◌, Some, None, ap, take, arith, ◌+◌, rules, refl}
 use Rattle.std.specs.Prelude.{replicate}
-use Rattle.std.specs.List.{range_with_len}
-use Rattle.wf_model.specs.declared.value.Val.{Val}
 use Rattle.wf_model.proofs.Rows.{row_len}
 use Rattle.wf_updates.specs.Tables.{last_of}
 use Rattle.wf_updates.proofs.Rows.{row_same, row_step, row_stays, last_here, last_other}

@@ -1,6 +1,5 @@
-use Rattle.std.proofs.Common.{◌≡◌, ◌∙◌, ℕ, List, Option, Some, None, ap, sym, take, length, get_or, set, arith, map, ◌+◌, rules, refl}
+use Rattle.std.proofs.Common.{◌≡◌, ◌∙◌, ℕ, Option, Some, None, ap, sym, take, arith, ◌+◌, rules, refl}
 use Rattle.std.specs.Prelude.{replicate}
-use Rattle.std.specs.List.{range_with_len}
 use Rattle.wf_model.specs.declared.update.Write.{Write}
 use Rattle.wf_model.proofs.Rows.{row_len, row_at}
 use Rattle.wf_actions.specs.Writes.{winner, over}

@@ -1,4 +1,4 @@
-use Rattle.std.proofs.Common.{◌≡◌, ◌∙◌, ◌==◌, ◌+◌, ◌-◌, ℕ, List, map, filter, ap, ap₂}
+use Rattle.std.proofs.Common.{◌∙◌, ◌==◌, ◌+◌, ◌-◌, ℕ, List, map, filter, ap, ap₂}
 use Rattle.std.specs.List.{list_any}
 use Rattle.wf_model.specs.declared.ids.StateId.{StateId}
 use Rattle.wf_model.specs.declared.ids.ActId.{ActId}

@@ -1,4 +1,4 @@
-use Rattle.std.proofs.Common.{◌≡◌, ◌∙◌, map, filter, ap}
+use Rattle.std.proofs.Common.{◌∙◌, map, filter, ap}
 use Rattle.wf_model.specs.declared.outer.Output.{Output}
 use Rattle.wf_parts.specs.declared.data.PartData.{PartData}
 use Rattle.wf_updates.proofs.Making.{first_made}

@@ -1,5 +1,0 @@
-use Rattle.std.proofs.Common.{◌≡◌, ◌+◌, ◌-◌, ◌++◌, None, map, filter, filter_map, take, slice_index, slice_index_or, unwrap_or}
-use Rattle.wf_updates.proofs.after.open_numbers.Given as goal
-
-abbrev pub invariant-loop-act : goal.invariant-loop-act
-invariant-loop-act l = l.numbers.items ≡ map (λ it. it.0.0) (take l.act-index l.unclosed)

@@ -25,6 +25,7 @@ use Rattle.wf_views.specs.OwnSteps.{differs}
 use Rattle.wf_views.specs.Views.{after_outputs}
 use Rattle.wf_views.specs.Knowledge.{cut_entry, cut_entries}
 use Rattle.wf_views.specs.Absorbing.{is_flipped, is_raised, value_after, start_count, entries_of, entries_in}
+use Rattle.wf_updates.specs.After.{moved, states_after, events_among, values_by, count_by, counted, entries_from}
 use Rattle.wf_updates.specs.Tables.{past_numbers, is_among, count_of, last_of}
 use Rattle.wf_updates.proofs.NumberSets.{above_start}
 use Rattle.wf_updates.proofs.Cuts.{kept_more, left_more}
@@ -98,25 +99,25 @@ last_from x (o ∷ os) last val = last_from x os (cond (o.var.0 == x) (Some o.va
 
 pub states_same : (known : List KnownState) (before : List StateId) (all : List Update) (inside flipped : List Bool) (numbers given : List ℕ) (count : ℕ)
     → bit inside ≡ (λ s. list_any (λ id. id.0 == s) before) → numbers ≡ map (λ it. it.id.0) known → given ≡ numbers → count ≡ past_numbers given → flipped ≡ map (is_flipped all) (range_with_len 0 count)
-    → filter (λ known. differs (bit inside known.id.0) (bit flipped known.id.0)) known ≡ filter (λ known. differs (list_any (λ id. id.0 == known.id.0) before) (is_flipped all known.id.0)) known
+    → moved known (bit inside) (bit flipped) ≡ states_after known before all
 states_same known before all inside flipped numbers given count i n g e row =
-    filter_agree _ _ known (λ k d lt.
+    ap (map (λ (known : KnownState). known.id)) (filter_agree _ _ known (λ k d lt.
     let x : KnownState = get_or known k d in
     ap₂ (λ (a b : Bool). differs a b) (ap (λ (f : ℕ → Bool). f x.id.0) i)
-    (row_at (is_flipped all) count x.id.0 false flipped row (below (λ (it : KnownState). it.id.0) known numbers given count n g e k d lt)))
+    (row_at (is_flipped all) count x.id.0 false flipped row (below (λ (it : KnownState). it.id.0) known numbers given count n g e k d lt))))
 
 pub events_same : (known : List KnownEvent) (all : List Update) (raised : List Bool) (numbers given : List ℕ) (count : ℕ)
     → numbers ≡ map (λ it. it.id.0) known → given ≡ numbers → count ≡ past_numbers given → raised ≡ map (is_raised all) (range_with_len 0 count)
-    → filter (λ known. bit raised known.id.0) known ≡ filter (λ known. is_raised all known.id.0) known
+    → events_among known (bit raised) ≡ events_among known (is_raised all)
 events_same known all raised numbers given count n g e row =
-    filter_agree _ _ known (λ k d lt.
+    ap (map (λ (known : KnownEvent). known.id)) (filter_agree _ _ known (λ k d lt.
     let x : KnownEvent = get_or known k d in
-    row_at (is_raised all) count x.id.0 false raised row (below (λ (it : KnownEvent). it.id.0) known numbers given count n g e k d lt))
+    row_at (is_raised all) count x.id.0 false raised row (below (λ (it : KnownEvent). it.id.0) known numbers given count n g e k d lt)))
 
 pub values_same : (vars : List Output) (outputs : List Output) (writes : List Write) (last : List (Option Val)) (best : List (Option Write)) (numbers given : List ℕ) (count : ℕ)
     → numbers ≡ map (λ it. it.var.0) vars → given ≡ numbers → count ≡ past_numbers given
     → last ≡ map (last_of outputs) (range_with_len 0 count) → best ≡ map (λ x. winner x writes) (range_with_len 0 count)
-    → map (λ o. let r : Output = record { var = o.var; val = option_map_or (λ write. write.val) (get_or best o.var.0 None) (unwrap_or (get_or last o.var.0 None) o.val) } in r) vars
+    → values_by vars last best
     ≡ map (λ o. record { var = o.var; val = value_after writes o.var.0 (after_outputs o.var.0 outputs o.val) }) vars
 values_same vars outputs writes last best numbers given count n g e l b =
     map_agree _ _ vars (λ k d lt.
@@ -129,7 +130,7 @@ values_same vars outputs writes last best numbers given count n g e l b =
 pub counts_at : (unclosed : List (ActId × ℕ)) (cs : List Completion) (starts : List StartAt) (done started numbers given : List ℕ) (count : ℕ)
     → numbers ≡ map (λ it. it.0.0) unclosed → given ≡ numbers → count ≡ past_numbers given
     → done ≡ map (λ a. done_count a cs) (range_with_len 0 count) → started ≡ map (λ a. start_count a starts) (range_with_len 0 count)
-    → All (λ a. a.1 - get_or done a.0.0 0 + get_or started a.0.0 0 ≡ a.1 - done_count a.0.0 cs + start_count a.0.0 starts) unclosed
+    → All (λ a. count_by done started a ≡ a.1 - done_count a.0.0 cs + start_count a.0.0 starts) unclosed
 counts_at unclosed cs starts done started numbers given count n g e f h k d lt =
     let a : ActId × ℕ = get_or unclosed k d in
     let within : a.0.0 < count = below (λ (it : ActId × ℕ). it.0.0) unclosed numbers given count n g e k d lt in
@@ -138,7 +139,7 @@ counts_at unclosed cs starts done started numbers given count n g e f h k d lt =
 pub counts_same : (unclosed : List (ActId × ℕ)) (cs : List Completion) (starts : List StartAt) (done started numbers given : List ℕ) (count : ℕ)
     → numbers ≡ map (λ it. it.0.0) unclosed → given ≡ numbers → count ≡ past_numbers given
     → done ≡ map (λ a. done_count a cs) (range_with_len 0 count) → started ≡ map (λ a. start_count a starts) (range_with_len 0 count)
-    → map {B = ActId × ℕ} (λ a. (a.0, a.1 - get_or done a.0.0 0 + get_or started a.0.0 0)) unclosed ≡ map {B = ActId × ℕ} (λ a. (a.0, a.1 - done_count a.0.0 cs + start_count a.0.0 starts)) unclosed
+    → counted (count_by done started) unclosed ≡ counted (λ a. a.1 - done_count a.0.0 cs + start_count a.0.0 starts) unclosed
 counts_same unclosed cs starts done started numbers given count n g e f h =
     map_agree _ _ unclosed (λ k d lt.
     ap (λ (m : ℕ). let p : ActId × ℕ = ((get_or unclosed k d).0, m) in p) (counts_at unclosed cs starts done started numbers given count n g e f h k d lt))
@@ -161,7 +162,7 @@ kept_map g h [] = refl
 kept_map {C = C} g h (x ∷ xs) = ap (λ (l : List C). cons_option (g (h x)) l) (kept_map g h xs)
 
 pub entries_more : (known : Knowledge) (all : List Update) (i : ℕ) (u : Update) (old new : List Entry) → i < length all → u ≡ get_or all i u
-    → old ≡ cut_entries known (entries_in (take i all)) → new ≡ old ++ filter_map (λ outer. cut_entry known (record { unit = u.from; outer = outer })) u.outer
+    → old ≡ cut_entries known (entries_in (take i all)) → new ≡ old ++ entries_from known u.from u.outer
     → new ≡ cut_entries known (entries_in (take (i + 1) all))
 entries_more known all i u old new lt is before now =
     now ∙ ap₂ (λ (a b : List Entry). a ++ b) before (sym (kept_map (cut_entry known) (λ outer. record { unit = u.from; outer = outer }) u.outer))

@@ -1,14 +1,14 @@
 //! The lists of a view after a step.
-ghost use Rattle.std.specs.Prelude.{◌≡◌, ◌+◌, ◌-◌, ◌<◌, ◌^◌, ◌==◌, ◌++◌, All, None, map, filter, filter_map, flat_map, slice_index, slice_index_or, unwrap_or, IfOk, OnOk};
+ghost use Rattle.std.specs.Prelude.{◌≡◌, ◌+◌, ◌-◌, ◌<◌, ◌^◌, ◌==◌, ◌++◌, All, map, IfOk, OnOk};
 ghost use Rattle.std.specs.List.{list_any, range_with_len};
-ghost use Rattle.std.specs.Option.{option_map_or};
 ghost use Rattle.wf_model.specs.Bits.{bit};
 ghost use Rattle.wf_semantics.specs.Items.{done_count};
 ghost use Rattle.wf_views.specs.OwnSteps.{differs};
-ghost use Rattle.wf_views.specs.Knowledge.{cut_entry, cut_entries};
-ghost use Rattle.wf_views.specs.Views.{after_outputs, outputs_in, completions_in};
-ghost use Rattle.wf_views.specs.Absorbing.{is_flipped, is_raised, value_after, start_count, writes_in, starts_in, entries_in};
+ghost use Rattle.wf_views.specs.Knowledge.{cut_entries};
+ghost use Rattle.wf_views.specs.Views.{completions_in};
+ghost use Rattle.wf_views.specs.Absorbing.{is_flipped, is_raised, start_count, starts_in, entries_in};
 ghost use Rattle.wf_updates.specs.Tables.{told_by};
+ghost use Rattle.wf_updates.specs.After.{moved, states_after, events_among, value_from, values_by, vars_after, count_by, count_after, counted, entries_from};
 
 use crate::cut::cut_outer;
 use crate::gather::{all_flips, all_outputs, all_raised, all_starts, all_writes, completed_acts};
@@ -55,7 +55,7 @@ fn moved(
     inside: &Bits,
     flipped: &Bits,
 ) -> Result<List<StateId>, NoMemory>
-    ensures { IfOk result (λ ids. ids ≡ map (λ known. known.id) (filter (λ known. differs (bit inside.now known.id.0) (bit flipped.now known.id.0)) known.now)) }
+    ensures { IfOk result (λ ids. ids ≡ moved known.now (bit inside.now) (bit flipped.now)) }
 {
     let mut ids = List::new(alloc);
     for state in known {
@@ -74,7 +74,7 @@ pub fn states_after(
     before: &[StateId],
     all: &[Update],
 ) -> Result<List<StateId>, NoMemory>
-    ensures { IfOk result (λ ids. ids ≡ map (λ known. known.id) (filter (λ known. differs (list_any (λ id. id.0 == known.id.0) before.now) (is_flipped all.now known.id.0)) known.now)) }
+    ensures { IfOk result (λ ids. ids ≡ states_after known.now before.now all.now) }
 {
     let inside = state_set(alloc, before)?;
     let numbers = known_states(alloc, known)?;
@@ -97,7 +97,7 @@ fn events_among(
     known: &[KnownEvent],
     raised: &Bits,
 ) -> Result<List<EventId>, NoMemory>
-    ensures { IfOk result (λ ids. ids ≡ map (λ known. known.id) (filter (λ known. bit raised.now known.id.0) known.now)) }
+    ensures { IfOk result (λ ids. ids ≡ events_among known.now (bit raised.now)) }
 {
     let mut ids = List::new(alloc);
     for event in known {
@@ -114,7 +114,7 @@ pub fn raised_after(
     known: &[KnownEvent],
     all: &[Update],
 ) -> Result<List<EventId>, NoMemory>
-    ensures { IfOk result (λ ids. ids ≡ map (λ known. known.id) (filter (λ known. is_raised all.now known.id.0) known.now)) }
+    ensures { IfOk result (λ ids. ids ≡ events_among known.now (is_raised all.now)) }
 {
     let numbers = known_events(alloc, known)?;
     let raised = raised_below(alloc, past_numbers(numbers.as_slice()), all)?;
@@ -123,7 +123,7 @@ pub fn raised_after(
 
 // The value by the write that stays, else by the last output, else the one before.
 fn value_from(best: Option<Write>, last: Option<Val>, before: Val) -> Val
-    ensures { result ≡ option_map_or (λ write. write.val) best (unwrap_or last before) }
+    ensures { result ≡ value_from best last before }
 {
     match best {
         Some(write) => write.val,
@@ -138,7 +138,7 @@ fn values_by(
     last: &[Option<Val>],
     best: &[Option<Write>],
 ) -> Result<List<Output>, NoMemory>
-    ensures { IfOk result (λ values. values ≡ map (λ o. record { var = o.var; val = option_map_or (λ write. write.val) (slice_index_or best.now o.var.0 None) (unwrap_or (slice_index_or last.now o.var.0 None) o.val) }) vars.now) }
+    ensures { IfOk result (λ values. values ≡ values_by vars.now last.now best.now) }
 {
     let mut values = List::new(alloc);
     for it in vars {
@@ -157,7 +157,7 @@ pub fn vars_after(
     next: &[Entry],
     all: &[Update],
 ) -> Result<List<Output>, NoMemory>
-    ensures { IfOk result (λ values. values ≡ map (λ o. record { var = o.var; val = value_after (writes_in all.now) o.var.0 (after_outputs o.var.0 (outputs_in next.now) o.val) }) vars.now) }
+    ensures { IfOk result (λ values. values ≡ vars_after vars.now next.now all.now) }
 {
     let numbers = output_numbers(alloc, vars)?;
     let count = past_numbers(numbers.as_slice());
@@ -186,7 +186,7 @@ fn started_below(alloc: Global, count: usize, all: &[Update]) -> Result<Vec<u64>
 }
 
 // How many are open, once these were done and those started.
-fn count_after(before: u32, done: u64, started: u64) -> u32
+fn left_open(before: u32, done: u64, started: u64) -> u32
     requires { before - done + started < 2 ^ 32 }
     ensures { result ≡ before - done + started }
 {
@@ -200,13 +200,13 @@ fn counts_by(
     done: &[u64],
     started: &[u64],
 ) -> Result<List<(ActId, u32)>, NoMemory>
-    requires { All (λ a. a.1 - slice_index done.now a.0.0 + slice_index started.now a.0.0 < 2 ^ 32) unclosed.now }
-    ensures { IfOk result (λ counts. counts ≡ map (λ a. (a.0, a.1 - slice_index done.now a.0.0 + slice_index started.now a.0.0)) unclosed.now) }
+    requires { All (λ a. count_by done.now started.now a < 2 ^ 32) unclosed.now }
+    ensures { IfOk result (λ counts. counts ≡ counted (count_by done.now started.now) unclosed.now) }
 {
     let mut counts = List::new(alloc);
     for (act, before) in unclosed {
         let at = act.0 as usize;
-        let now = count_after(*before, count_at(done, at), count_at(started, at));
+        let now = left_open(*before, count_at(done, at), count_at(started, at));
         counts.push((*act, now))?;
     }
     Ok(counts)
@@ -219,8 +219,8 @@ pub fn unclosed_after(
     next: &[Entry],
     all: &[Update],
 ) -> Result<List<(ActId, u32)>, NoMemory>
-    requires { All (λ a. a.1 - done_count a.0.0 (completions_in next.now) + start_count a.0.0 (starts_in all.now) < 2 ^ 32) unclosed.now }
-    ensures { IfOk result (λ counts. counts ≡ map (λ a. (a.0, a.1 - done_count a.0.0 (completions_in next.now) + start_count a.0.0 (starts_in all.now))) unclosed.now) }
+    requires { All (λ a. count_after next.now all.now a < 2 ^ 32) unclosed.now }
+    ensures { IfOk result (λ counts. counts ≡ counted (count_after next.now all.now) unclosed.now) }
 {
     let numbers = open_numbers(alloc, unclosed)?;
     let count = past_numbers(numbers.as_slice());
@@ -237,7 +237,7 @@ fn add_entries(
     outers: &[Outer],
     known: &KnownSets,
 ) -> Result<(), NoMemory>
-    ensures { OnOk result (entries.new ≡ entries.old ++ filter_map (λ outer. cut_entry (told_by known.now) (record { unit = unit; outer = outer })) outers.now) }
+    ensures { OnOk result (entries.new ≡ entries.old ++ entries_from (told_by known.now) unit outers.now) }
 {
     for outer in outers {
         if let Some(outer) = cut_outer(alloc, outer, known)? {

@@ -1,11 +1,11 @@
 //! Updates and entries, cut to what is known.
 ghost use Rattle.std.specs.Prelude.{◌≡◌, ◌==◌, filter, filter_map, find, IfOk};
-ghost use Rattle.std.specs.Option.{option_copied, option_map_or};
+ghost use Rattle.std.specs.Option.{option_copied};
 ghost use Rattle.wf_model.specs.Bits.{bit};
 ghost use Rattle.wf_model.specs.declared.outer.Outer.TheVariants.{Complete};
 ghost use Rattle.wf_views.specs.Knowledge.{cut_outer};
-ghost use Rattle.wf_views.specs.Relevant.{is_listed, nothing, cut_update, relevant};
-ghost use Rattle.wf_updates.specs.Tables.{told_by};
+ghost use Rattle.wf_views.specs.Relevant.{cut_update, relevant};
+ghost use Rattle.wf_updates.specs.Tables.{known_at, told_by};
 
 use crate::sets::KnownSets;
 use std::alloc::Global;
@@ -158,7 +158,7 @@ fn find_peer(peers: &[Known], peer: UnitId) -> Option<&Known>
 
 // What this peer knows. Who is no peer knows nothing.
 fn peer_sets(alloc: Global, peers: &[Known], peer: UnitId) -> Result<KnownSets, NoMemory>
-    ensures { IfOk result (λ sets. told_by sets ≡ option_map_or is_listed (find (λ known. known.unit.0 == peer.0) peers.now) nothing) }
+    ensures { IfOk result (λ sets. told_by sets ≡ known_at peers.now peer.0) }
 {
     match find_peer(peers, peer) {
         Some(known) => KnownSets::of_peer(alloc, known),

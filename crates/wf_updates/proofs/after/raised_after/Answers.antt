@@ -1,18 +1,16 @@
-use Rattle.std.proofs.Common.{◌≡◌, ◌∙◌, map, filter, ap}
+use Rattle.std.proofs.Common.{◌≡◌, ◌∙◌}
 use Rattle.std.proofs.lemmas.Result.{IfOk-weaker}
 use Rattle.wf_model.specs.Bits.{bit}
-use Rattle.wf_parts.specs.declared.data.KnownEvent.{KnownEvent}
 use Rattle.wf_views.specs.Absorbing.{is_raised}
+use Rattle.wf_updates.specs.After.{events_among}
 use Rattle.wf_updates.proofs.Tabled.{events_same}
 use Rattle.wf_updates.proofs.after.raised_after.Goals as goal
 
 pub returns : goal.returns
 returns c =
     let known = c.args.known.now in
-    IfOk-weaker c.events_among.result
-    (λ ids. ids ≡ map (λ known. known.id) (filter (λ known. bit c.in_ok-raised.raised known.id.0) known))
-    (λ ids. ids ≡ map (λ known. known.id) (filter (λ known. is_raised c.args.all.now known.id.0) known))
-    (λ ids e. e ∙ ap (map (λ (known : KnownEvent). known.id))
-    (events_same known c.args.all.now c.in_ok-raised.raised c.in_ok-numbers.numbers.items c.as_slice.result.now c.past_numbers.result
-    c.in_ok-numbers.ensures c.as_slice.ensures.value c.past_numbers.ensures c.in_ok-raised.ensures))
+    IfOk-weaker c.events_among.result (λ ids. ids ≡ events_among known (bit c.in_ok-raised.raised)) (λ ids. ids ≡ events_among known (is_raised c.args.all.now))
+    (λ ids e. e
+    ∙ events_same known c.args.all.now c.in_ok-raised.raised c.in_ok-numbers.numbers.items c.as_slice.result.now c.past_numbers.result
+    c.in_ok-numbers.ensures c.as_slice.ensures.value c.past_numbers.ensures c.in_ok-raised.ensures)
     c.events_among.ensures

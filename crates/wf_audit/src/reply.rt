@@ -77,7 +77,8 @@ fn append_starts(text: &mut Bytes, chart: &Chart, starts: &[(ActId, u32)]) -> Re
     Ok(())
 }
 
-fn append_states(text: &mut Bytes, chart: &Chart, states: &[StateId]) -> Result<(), NoMemory>
+/// Adds the names of these states, each behind a space. Linear in what is written.
+pub fn append_states(text: &mut Bytes, chart: &Chart, states: &[StateId]) -> Result<(), NoMemory>
     ensures { OnOk result (text.new ≡ text.old ++ spec.states_text chart.now states.now) }
 {
     for state in states {
@@ -87,7 +88,8 @@ fn append_states(text: &mut Bytes, chart: &Chart, states: &[StateId]) -> Result<
     Ok(())
 }
 
-fn append_vars(text: &mut Bytes, chart: &Chart, vars: &[Output]) -> Result<(), NoMemory>
+/// Adds these variables with their values, each behind a space. Linear in what is written.
+pub fn append_vars(text: &mut Bytes, chart: &Chart, vars: &[Output]) -> Result<(), NoMemory>
     ensures { OnOk result (text.new ≡ text.old ++ spec.vars_text chart.now vars.now) }
 {
     for variable in vars {
@@ -109,7 +111,8 @@ fn append_raised(text: &mut Bytes, chart: &Chart, raised: &[EventId]) -> Result<
     Ok(())
 }
 
-fn append_fault(text: &mut Bytes, fault: OuterFault) -> Result<(), NoMemory>
+/// Adds the words for why an outer was refused.
+pub fn append_fault(text: &mut Bytes, fault: OuterFault) -> Result<(), NoMemory>
     ensures { OnOk result (text.new ≡ text.old ++ spec.fault_text fault) }
 {
     match fault {
@@ -120,7 +123,8 @@ fn append_fault(text: &mut Bytes, fault: OuterFault) -> Result<(), NoMemory>
     }
 }
 
-fn append_step(
+/// Adds what the step with this number did. Linear in what is written.
+pub fn append_step(
     text: &mut Bytes,
     chart: &Chart,
     step: u32,
@@ -136,7 +140,8 @@ fn append_step(
     append_starts(text, chart, notes.starts.as_slice())
 }
 
-fn append_sight(
+/// Adds the sight of the central run. Linear in what is written.
+pub fn append_sight(
     text: &mut Bytes,
     chart: &Chart,
     taken: u32,

@@ -107,8 +107,8 @@ fn said_by(
     }
 }
 
-// The tokens of a line, if it has no fault.
-fn tokens_in(alloc: Global, line: &[u8]) -> Result<Option<List<Token>>, NoMemory>
+/// The tokens of a line, if it has no fault. Linear in the line.
+pub fn tokens_in(alloc: Global, line: &[u8]) -> Result<Option<List<Token>>, NoMemory>
     requires { length line.now ≤ max_input }
     ensures { IfOk result (λ found. found ≡ result_ok (line_tokens_of line.now)) }
 {

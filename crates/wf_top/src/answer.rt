@@ -21,6 +21,7 @@ pub struct Answer {
 }
 
 impl Answer {
+    /// This status, with this text to be written. Takes no memory.
     pub fn new(status: Status, text: Bytes) -> Answer
         ensures { result ≡ spec.answer status text }
     {

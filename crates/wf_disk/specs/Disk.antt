@@ -1,4 +1,4 @@
--- What a disk is told to be: what its calls do, and what a crash may leave between two syncs.
+-- Of other calls. A disk: what its calls do, and what a crash may leave between two syncs.
 use Rattle.std.specs.Prelude.{◌≡◌, ◌⊎◌, ℕ, ◌+◌, ◌-◌, ◌^◌, ◌≤◌, ◌<◌, min, max, List, ◌++◌, length, take, drop, Option, Some}
 
 -- A disk at one moment. A stroke is a write or a sync, failed ones too.

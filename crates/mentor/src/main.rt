@@ -1,5 +1,6 @@
 //! The program: it gives the words of the command line, standard input, standard output and the
-//! clock to the top call, and ends with the number of its status. It decides nothing itself.
+//! clock to the top call, and ends with the number of its status. It decides no more than that the
+//! first word is the program's own name, and that words which aren't text are none.
 //!
 //! - Promises: nothing; what it does is `wf_top::mentor`, over the system's ends of `wf_io`.
 //! - Doesn't say: that the system gives and takes what std's statements say, which is trusted.

@@ -22,6 +22,6 @@ mod sizes;
 mod sorts;
 mod tree;
 
-pub use checker::{check, first_fault};
+pub use checker::{check, first_fault, judge};
 pub use fault::{CheckFault, TypePlace, What};
-pub use laws::{accepted_has_no_fault, faultless_is_accepted};
+pub use laws::{accepted_has_no_fault, checking_has_memory, faultless_is_accepted};

@@ -14,7 +14,7 @@ mod checked;
 mod held;
 mod laws;
 
-pub use checked::{checked_is_read_back, checked_is_spelled};
+pub use checked::{checked_is_lined, checked_is_read_back, checked_is_spelled};
 pub use held::chart_is_held;
 pub use laws::{
     chart_is_read_back, chart_is_spelled, cut_is_answered, cuts_are_equal, meant_is_text_of,

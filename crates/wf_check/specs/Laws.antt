@@ -1,4 +1,4 @@
--- Which charts have a first fault.
+-- Of the laws. Which charts have a first fault.
 use Rattle.std.specs.Prelude.{◌≡◌, ◌≢◌, Some, None}
 use Rattle.wf_model.specs.declared.chart.Chart.{Chart}
 use Rattle.wf_model.specs.Accepted.{IsAccepted}

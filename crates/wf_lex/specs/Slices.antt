@@ -1,4 +1,4 @@
--- How tokens stand in their text.
+-- Of the laws. How tokens stand in their text.
 use Rattle.std.specs.Prelude.{◌≡◌, ℕ, ◌+◌, Bool, true, false, not, ◌||◌, ◌&&◌, ◌==◌, List, [], ◌∷◌, ◌++◌, length, Some, IsTrue}
 use Rattle.wf_lex.specs.declared.token.TokenKind.{TokenKind}
 use Rattle.wf_lex.specs.declared.token.Token.{Token}

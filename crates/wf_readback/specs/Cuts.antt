@@ -1,4 +1,4 @@
--- How a text is cut into tokens, with no bound on their number.
+-- Of the laws. How a text is cut into tokens, with no bound on their number.
 use Rattle.std.specs.Prelude.{ℕ, false, List}
 use Rattle.wf_lex.specs.declared.token.Token.{Token}
 use Rattle.wf_lex.specs.Slices.{AreSlices}

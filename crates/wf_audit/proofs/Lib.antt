@@ -7,3 +7,4 @@ pub mod Read
 pub mod Counted
 pub mod Variables
 pub mod Sights
+pub mod Memory

@@ -6,3 +6,4 @@ pub mod Outers
 pub mod Script
 pub mod Replies
 pub mod CentralText
+pub mod Laws

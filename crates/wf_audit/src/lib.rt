@@ -11,6 +11,7 @@
 #![tactic(auto)]
 
 mod central;
+mod laws;
 mod lines;
 mod names;
 mod outer;
@@ -19,6 +20,7 @@ mod script;
 mod values;
 
 pub use central::{RunFault, run_central};
+pub use laws::scripts_have_memory;
 pub use lines::{Division, divide, line_count, split_line};
 pub use names::Names;
 pub use outer::outer_of;

@@ -1,4 +1,4 @@
--- What a disk is told to be: what its calls do, and what a crash may leave between two syncs.
+-- Of other calls. A disk: what its calls do, and what a crash may leave between two syncs.
 use Rattle.std.specs.Prelude.{◌≡◌, ◌⊎◌, ℕ, ◌+◌, ◌≤◌, ◌<◌, max, List, ◌++◌, length, take, drop, Option, Some}
 use Rattle.wf_model.specs.Faults.{last_count, Rose}
 

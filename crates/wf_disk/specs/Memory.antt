@@ -1,4 +1,4 @@
--- A disk in memory tells its moments from a record of its strokes.
+-- Of other calls. A disk in memory tells its moments from a record of its strokes.
 use Rattle.std.specs.Prelude.{◌≡◌, ◌≢◌, ℕ, ◌+◌, ◌≤◌, Bool, true, ◌||◌, ◌==◌, nat_lt, if◌then◌else◌, List, [], ◌∷◌, ◌++◌, length, drop, Option, None, Some, is_some, unwrap_or}
 use Rattle.wf_model.specs.Faults.{last_count, one_more}
 use Rattle.wf_disk.specs.Disk.{Told, Only}

@@ -1,4 +1,4 @@
--- What a shelf of named disks is told to be, and what it is for a disk to be moved.
+-- Of other calls. A shelf of named disks, and what it is for a disk to be moved.
 use Rattle.std.specs.Prelude.{◌≡◌, ◌⊎◌, ◌≤◌, ◌<◌, ℕ, List, Option, None, Some}
 use Rattle.wf_model.specs.Faults.{Rose}
 use Rattle.wf_disk.specs.Disk.{Told, Within, Only}

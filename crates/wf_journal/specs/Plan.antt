@@ -1,4 +1,4 @@
--- What became of the strokes that a disk is to fail, after a call that makes several.
+-- Of other calls. What became of the strokes that a disk is to fail, after several strokes.
 use Rattle.std.specs.Prelude.{◌≡◌, ◌⊎◌, ℕ, ◌+◌, ◌<◌, ◌≤◌, List, Some}
 use Rattle.wf_model.specs.Faults.{last_count}
 use Rattle.wf_disk.specs.Disk.{Told, KeepsPlan, GoesOnOrStops, IsDown}

@@ -1,5 +1,5 @@
 //! Replies, and their text.
-ghost use Rattle.std.specs.Prelude.{◌≡◌, ◌++◌, IfOk, OnOk};
+ghost use Rattle.std.specs.Prelude.{◌≡◌, ◌++◌, IfOk, OnOk, OnErr};
 ghost use Rattle.std.specs.Fmt.{signed_decimal};
 ghost use Rattle.wf_audit.specs.Replies as spec;
 
@@ -111,9 +111,10 @@ fn append_raised(text: &mut Bytes, chart: &Chart, raised: &[EventId]) -> Result<
     Ok(())
 }
 
-/// Adds the words for why an outer was refused.
+/// Adds the words for why an outer was refused. If memory runs out, the text is as before.
 pub fn append_fault(text: &mut Bytes, fault: OuterFault) -> Result<(), NoMemory>
-    ensures { OnOk result (text.new ≡ text.old ++ spec.fault_text fault) }
+    ensures ok { OnOk result (text.new ≡ text.old ++ spec.fault_text fault) }
+    ensures err { OnErr result (text.new ≡ text.old) }
 {
     match fault {
         OuterFault::WrongUnit => text.append(b"wrong unit"),

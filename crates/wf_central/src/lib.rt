@@ -3,6 +3,7 @@
 
 mod outputs;
 mod passes;
+mod pending;
 mod run;
 mod snapshot;
 mod state;

@@ -1,4 +1,4 @@
--- Which numbers the maps of a chart's names find.
+-- Inner. Ties the maps of a chart's names to the names that a script may use.
 use Rattle.wf_audit.specs.declared.names.Names.{Names}
 use Rattle.wf_audit.specs.Names.{Finder, found_in}
 

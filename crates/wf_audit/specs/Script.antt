@@ -1,4 +1,4 @@
--- A script of the central run: what each of its lines says, or the first line that is outside the grammar.
+-- A script of the central run: what its lines say, or its first line outside the grammar.
 use Rattle.std.specs.Prelude.{ℕ, ◌+◌, List, [], ◌∷◌, Option, Some, None, Result, Ok, Err, if◌then◌else◌}
 use Rattle.std.specs.Option.{option_map}
 use Rattle.std.specs.Str.{bytes_eq}

@@ -1,4 +1,13 @@
-//! What the central run of a chart takes and gives as text: the lines of an input, the lines of a script, the replies.
+//! The texts of the central run: the lines of an input, the lines of a script, and the replies.
+//!
+//! - Promises: `divide` cuts an input at its first line `---`. `read_central` reads a script as its
+//!   lines, or refuses its first line outside the grammar. `run_central` answers the defined text
+//!   of a run, or that it gets too long. Each may run out of memory instead, but `divide`, which
+//!   takes none.
+//! - Doesn't say: what of a refused line is wrong.
+//! - A caller: `wf_top` answers the command `central` with `run_central`.
+//! - A change of a script's line begins in `specs/Script.antt`, one of a reply in
+//!   `specs/Replies.antt`.
 #![tactic(auto)]
 
 mod central;

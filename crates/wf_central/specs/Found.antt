@@ -1,4 +1,4 @@
--- How the pending completions are found.
+-- Inner. How the pending completions are found.
 use Rattle.std.specs.Prelude.{ℕ, ◌≡◌, ◌==◌, ◌&&◌, List, Option, Some, None}
 use Rattle.std.specs.List.{list_any}
 use Rattle.wf_model.specs.declared.outer.Outer.{Outer}

@@ -1,7 +1,7 @@
 //! The command `central`.
 ghost use Rattle.std.specs.Prelude.{◌≡◌, ◌≤◌, length, IfOk};
 ghost use Rattle.wf_audit.specs.CentralText.{central_text};
-ghost use Rattle.wf_audit.specs.Lines.{lines_of};
+ghost use Rattle.wf_scripts.specs.Lines.{lines_of};
 ghost use Rattle.wf_audit.specs.Script.{script_of};
 ghost use Rattle.wf_top.specs.Answers as spec;
 ghost use Rattle.wf_model.specs.Limits.{max_input, max_lines};

@@ -1,0 +1,6 @@
+-- Which numbers the maps of a chart's names find.
+use Rattle.wf_scripts.specs.declared.names.Names.{Names}
+use Rattle.wf_scripts.specs.Names.{Finder, found_in}
+
+abbrev pub finder_of : Names → Finder
+finder_of names = record { unit = found_in names.units; event = found_in names.events; act = found_in names.acts; var = found_in names.vars }

@@ -26,7 +26,7 @@ use Rattle.wf_model.proofs.Items.{all_at}
 use Rattle.wf_activities.specs.Completing.{are_wanted, may_complete, unless_pending}
 use Rattle.wf_activities.specs.Laws.{HaveSorts, CompletesByAdmission}
 use Rattle.wf_activities.specs.UnitItems.{UnitItems}
-use Rattle.wf_activities.specs.Stock.{Stock, AreOf, items_at, with_sort, with_sorts, wanted_of, acts_of}
+use Rattle.wf_activities.specs.Stock.{Stock, AreOf, items_at, with_sort, with_sorts, wanted_of}
 use Rattle.wf_activities.proofs.LawsHold.{values_wanted}
 
 -- an activity that is at a unit is one of the chart

@@ -36,26 +36,6 @@ row_made f d n xs e h =
     same : (i : ℕ) → i ≡ 0 + i
     same i = omega arith
 
-range_more : (i : ℕ) → range_with_len 0 (i + 1) ≡ range_with_len 0 i ++ i ∷ []
-range_more i =
-    sym (map_same (range_with_len 0 (i + 1))) ∙ map-range_with_len_more (λ x. x) 0 i i (omega arith) ∙ ap (λ l. l ++ i ∷ []) (map_same (range_with_len 0 i))
-  where
-    map_same : (xs : List ℕ) → map (λ x. x) xs ≡ xs
-    map_same [] = refl
-    map_same (x ∷ xs) = ap (λ (l : List ℕ). x ∷ l) (map_same xs)
-
--- one number more that may pass
-pub filter_more : {A : Type 0} (f : ℕ → A) (p : ℕ → Bool) (i : ℕ) → map f (filter p (range_with_len 0 (i + 1))) ≡ map f (filter p (range_with_len 0 i)) ++ cond (p i) (f i ∷ []) []
-filter_more {A} f p i =
-    ap (λ (l : List ℕ). map f (filter p l)) (range_more i)
-    ∙ ap (map f) (filter-append p (range_with_len 0 i) (i ∷ []))
-    ∙ map_more (filter p (range_with_len 0 i)) (p i)
-  where
-    map_more : (xs : List ℕ) (b : Bool) → map f (xs ++ cond b (i ∷ []) []) ≡ map f xs ++ cond b (f i ∷ []) []
-    map_more [] true = refl
-    map_more [] false = refl
-    map_more (x ∷ xs) b = ap (λ (l : List A). f x ∷ l) (map_more xs b)
-
 -- one more of the same
 pub replicate_more : {A : Type 0} (x : A) (n : ℕ) → replicate n x ++ x ∷ [] ≡ replicate (n + 1) x
 replicate_more x n = go n ∙ ap (λ (m : ℕ). replicate m x) (next n)

@@ -1,4 +1,4 @@
--- Which completions of a unit's items are refused.
+-- Inner. Which completions of a unit's items are refused.
 use Rattle.std.specs.Prelude.{ℕ, ◌==◌, ◌&&◌, not, Bool, true, false, List, [], ◌∷◌, Result, Ok, Err, if◌then◌else◌}
 use Rattle.wf_model.specs.declared.ids.ActId.{ActId}
 use Rattle.wf_model.specs.declared.ids.VarId.{VarId}

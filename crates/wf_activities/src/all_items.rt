@@ -15,12 +15,10 @@ use wf_model::{
     VarId,
 };
 
-/// The items of all units of one chart, and what is worked out once for it: the activities of each unit, and what a completion
-/// of each activity gives.
+/// The items of all units of one chart, and what is worked out once for it: what a completion of each activity gives.
 #[derive(Drop)]
 pub struct AllItems {
     units: Vec<Items>,
-    acts: List<List<ActId>>,
     wanted: List<List<(VarId, Sort)>>,
 }
 
@@ -33,14 +31,13 @@ impl Model for AllItems {
     ghost view = { λ a. record {
       items = map (λ i. i.items) a.units.items;
       steps = map (λ i. i.steps) a.units.items;
-      acts = a.acts;
       wanted = a.wanted;
     } };
 }
 
 impl AllItems {
-    /// No item yet, at any unit of the chart. Works out the tables of the chart. Grows with the units times the activities, and
-    /// with the outputs.
+    /// No item yet, at any unit of the chart. Works out the table of the chart. Grows with the units, the activities and
+    /// their outputs.
     pub fn of(alloc: Global, checked: &Checked) -> Result<AllItems, NoMemory>
         ensures items { IfOk result (λ all. (u : ℕ) → items_at all u ≡ []) }
         ensures steps { IfOk result (λ all. (u : ℕ) → steps_at all u ≡ []) }
@@ -48,13 +45,8 @@ impl AllItems {
     {
         let chart = checked.chart();
         let units = tables::no_items(alloc, chart)?;
-        let acts = tables::acts(alloc, chart)?;
         let wanted = tables::wanted(alloc, chart)?;
-        Ok(AllItems {
-            units,
-            acts,
-            wanted,
-        })
+        Ok(AllItems { units, wanted })
     }
 
     /// Whether a unit may admit an outer where these entries are pending, or why not. Grows with the pending entries and the
@@ -95,8 +87,7 @@ impl AllItems {
     }
 
     /// Closes the items that the entries complete, adds the starts as items of this step, and gives each start with the number
-    /// of its item. Grows with the entries, and with the units times the starts times a unit's activities. After `NoMemory` all
-    /// is as before.
+    /// of its item. Grows with the entries, the units and the starts. After `NoMemory` all is as before.
     pub fn take_step(
         &mut self,
         alloc: Global,
@@ -116,10 +107,10 @@ impl AllItems {
         ensures err { OnErr result (self.new ≡ self.old) }
     {
         let numbers = numbers::numbered(alloc, chart, self.units.as_slice(), starts)?;
-        growing::reserve(&mut self.units, starts.len() as u32)?;
+        growing::reserve(&mut self.units, numbers.lengths.as_slice())?;
         completions::close_completed(&mut self.units, entries);
-        growing::grow(&mut self.units, self.acts.as_slice(), step, starts);
-        Ok(numbers)
+        growing::grow(&mut self.units, chart, step, starts);
+        Ok(numbers.starts)
     }
 
     // Whether a unit may admit a completion.

@@ -1,4 +1,4 @@
--- A script of the central run: what its lines say.
+-- A script of the central run: what its lines say, or its first line outside the grammar.
 use Rattle.std.specs.Prelude.{ℕ, List, [], ◌∷◌, Option, Some, None, Result, if◌then◌else◌}
 use Rattle.std.specs.Option.{option_map}
 use Rattle.std.specs.Str.{bytes_eq}

@@ -1,4 +1,4 @@
--- What each pass of a step makes of the one before it.
+-- Inner. What each pass of a step makes of the one before it.
 use Rattle.std.specs.Prelude.{ℕ, ◌-◌, ◌==◌, ◌&&◌, Bool, false, List, [], ◌∷◌, Option, Some, None, is_some, unwrap_or, slice_get, find, length, option_map, if◌then◌else◌}
 use Rattle.std.specs.List.{list_any, range_with_len}
 use Rattle.wf_model.specs.declared.ids.StateId.{StateId}

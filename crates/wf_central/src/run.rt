@@ -3,7 +3,7 @@ ghost use Rattle.std.specs.Prelude.{◌≡◌, ◌<◌, ◌+◌, ◌++◌, ◌==
 ghost use Rattle.wf_model.specs.Accepted.{IsAccepted};
 ghost use Rattle.wf_model.specs.Limits.{max_steps};
 ghost use Rattle.wf_semantics.specs.Standing as spec;
-ghost use Rattle.wf_central.specs.Kept.{notes_of};
+ghost use Rattle.wf_central.specs.Kept.{notes_of, StartInStep};
 ghost use Rattle.wf_central.specs.Standings.{standing_of, state_of, taken_by, IsRun};
 
 use crate::CentralState;
@@ -109,6 +109,8 @@ impl CentralRun {
             IfOk result (λ n. n ≡ notes_of checked.now before.central (spec.next_entries checked.now before)) }
         ensures standing { OnOk result (standing_of checked.now self.new
             ≡ spec.after_step checked.now (standing_of checked.now self.old)) }
+        ensures steps { let before = standing_of checked.now self.old in
+            OnOk result (StartInStep checked.now (state_of self.old) (spec.next_entries checked.now before) (state_of self.new)) }
         ensures of { IsRun checked.now self.new }
         ensures taken { OnOk result (taken_by self.new ≡ taken_by self.old + 1) }
         ensures err { OnErr result (self.new ≡ self.old) }

@@ -91,15 +91,17 @@ impl CentralState {
     }
 
     /// The events that were raised in the last step, ascending. Takes no memory.
+    #[tactic(auto, unfolding(crate::specs::Kept::central_of))]
     pub fn raised(&self) -> &[EventId]
-        ensures { result.now ≡ self.now.raised }
+        ensures { (chart : AnyChart) → result.now ≡ (central_of chart self.now).raised }
     {
         self.raised.as_slice()
     }
 
     /// How many steps were taken. Takes no memory.
+    #[tactic(auto, unfolding(crate::specs::Kept::central_of))]
     pub fn taken(&self) -> u32
-        ensures { result ≡ self.now.taken }
+        ensures { (chart : AnyChart) → result ≡ (central_of chart self.now).taken }
     {
         self.taken
     }
@@ -123,8 +125,8 @@ impl CentralState {
 
     /// Takes one step, in which these entries come: each of them may be admitted where those before it are pending. Grows with
     /// the states times their depth, the transitions, the nodes of the guards that are looked at and of the assigned values,
-    /// the actions that fire, the variables, the outputs, the events, the entries, the activities, and the units times
-    /// the starts times a unit's activities; not with the items. After `NoMemory` the state is as before.
+    /// the actions that fire, the variables, the outputs, the events, the entries, the activities, the units and the starts; not
+    /// with the items. After `NoMemory` the state is as before.
     pub fn step(
         &mut self,
         alloc: Global,

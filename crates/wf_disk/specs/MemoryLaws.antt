@@ -1,4 +1,4 @@
--- What a disk in memory tells is lawful.
+-- Inner. What a disk in memory tells is lawful.
 use Rattle.std.specs.Prelude.{◌≡◌, ℕ, zero, suc, ◌≤◌, List, [], ◌∷◌, length, Some, unwrap_or}
 use mathlib.Core.Logic.{inr}
 use Rattle.std.proofs.Common.{refl, sym, ap, arith, ◌∙◌}

@@ -1,6 +1,7 @@
 //! A shelf that can be met, and a caller that knows no more of a shelf than the trait says.
 ghost use Rattle.std.specs.Prelude.{◌≡◌, ◌<◌, ◌+◌, ◌-◌, ◌^◌, ◌&&◌, ◌==◌, [], ℕ, List, Some, None, true, if◌then◌else◌, min, length, OnOk, IfOk, IfSome};
-ghost use Rattle.wf_disk.specs.Disk.{Only, put_at, last_count};
+ghost use Rattle.wf_model.specs.Faults.{last_count, one_more};
+ghost use Rattle.wf_disk.specs.Disk.{Only, put_at};
 ghost use Rattle.wf_disk.specs.Shelf.{HasNothingUnsynced};
 
 use std::test::Fail;
@@ -39,7 +40,7 @@ struct Dead {
 
 impl Dead {
     fn fail(&mut self) -> Failed
-        ensures next { self.new.faults ≡ min (self.old.faults + 1) (2 ^ 64 - 1) }
+        ensures next { self.new.faults ≡ one_more self.old.faults }
         ensures range { self.old.faults < 2 ^ 64 }
     {
         self.faults = self.faults.saturating_add(1);
@@ -95,7 +96,7 @@ struct Drawer {
 
 impl Drawer {
     fn fail(&mut self) -> Failed
-        ensures next { self.new ≡ record self.old { faults = min (self.old.faults + 1) (2 ^ 64 - 1) } }
+        ensures next { self.new ≡ record self.old { faults = one_more self.old.faults } }
         ensures range { self.old.faults < 2 ^ 64 }
     {
         self.faults = self.faults.saturating_add(1);

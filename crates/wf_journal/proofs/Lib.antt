@@ -1,3 +1,4 @@
+mod Ends
 mod Cuts
 mod Shapes
 mod Strokes

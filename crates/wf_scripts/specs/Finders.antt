@@ -1,4 +1,4 @@
--- Which numbers the maps of a chart's names find.
+-- Inner. Ties the maps of a chart's names to the names that a script may use.
 use Rattle.wf_scripts.specs.declared.names.Names.{Names}
 use Rattle.wf_scripts.specs.Names.{Finder, found_in}
 

@@ -1,4 +1,4 @@
--- value = true | false | [ - ] INT | TEXT
+-- The values in a script's line: value = true | false | [ - ] INT | TEXT
 use Rattle.std.specs.Prelude.{ℕ, ◌+◌, pos, neg_ℤ, true, false, List, [], ◌∷◌, Option, Some, None, slice_range, if◌then◌else◌}
 use Rattle.std.specs.Option.{option_map}
 use Rattle.std.specs.Str.{bytes_eq}

@@ -16,4 +16,3 @@ mod script;
 pub use central::{RunFault, run_central};
 pub use reply::{Reply, append_fault, append_shown, reply_line};
 pub use script::{CentralLine, read_central};
-pub use wf_scripts::{Division, ScriptFault, divide, line_count};

@@ -1,4 +1,4 @@
--- A script by its grammar: what each of its lines says, or the first line that is outside the grammar.
+-- A script by its grammar: what its lines say, or its first line outside the grammar.
 use Rattle.std.specs.Prelude.{ℕ, ◌+◌, List, [], ◌∷◌, Option, Some, None, Result, Ok, Err}
 use Rattle.wf_model.specs.Steps.{both}
 use Rattle.wf_model.specs.declared.chart.Chart.{Chart}

@@ -1,7 +1,0 @@
-//! Laws of scripts, for every chart.
-ghost use Rattle.wf_audit.specs.Laws.{ScriptsHaveMemory};
-
-/// The definition of a script answers its lines or the first that is refused, and never that memory ran out.
-pub fn scripts_have_memory()
-    ensures { ScriptsHaveMemory }
-{}

@@ -4,3 +4,4 @@ pub mod Showing
 pub mod Gathering
 pub mod Stepping
 pub mod Bounds
+pub mod Locking

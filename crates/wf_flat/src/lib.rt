@@ -4,7 +4,9 @@
 mod firing;
 mod flips;
 mod gathered;
+mod lock;
 mod sighting;
 mod steps;
 
+pub use lock::lockstep;
 pub use steps::own_step;

@@ -1,6 +1,6 @@
 -- The tables of a chart, as they are made.
 use Rattle.std.proofs.Common.{◌≡◌, ℕ, ◌+◌, ◌<◌, ◌≤◌, List, [], ◌∷◌, ◌++◌, length, map, replicate, take, get_or, Option, Some, None, refl, sym, ◌∙◌, ap, ap₂, arith}
-use Rattle.std.specs.List.{slice_get, cons_option, filter_map}
+use Rattle.std.specs.List.{slice_get, cons_option}
 use Rattle.std.specs.Option.{option_map}
 use Rattle.std.proofs.lemmas.Bool.{leb-true}
 use Rattle.std.proofs.lemmas.List.{take_more, length-replicate}

@@ -1,5 +1,5 @@
 -- The numbers of what a step starts, one start after another.
-use Rattle.std.proofs.Common.{◌≡◌, ℕ, zero, suc, ◌+◌, ◌<◌, ◌≤◌, ◌==◌, cond, Bool, true, false, List, [], ◌∷◌, ◌++◌, length, map, filter, take, drop, get_or, set, Option, Some, None, refl, sym, ◌∙◌, ap, ap₂, arith, eq-eqb, eqb-true, true≢false, get_or-set_other, drop-cons, add-one, append_assoc, append-nil}
+use Rattle.std.proofs.Common.{◌≡◌, ℕ, zero, suc, ◌+◌, ◌<◌, ◌≤◌, ◌==◌, cond, Bool, true, false, List, [], ◌∷◌, ◌++◌, length, map, filter, take, drop, get_or, set, Option, Some, refl, sym, ◌∙◌, ap, ap₂, arith, eq-eqb, eqb-true, true≢false, get_or-set_other, drop-cons, add-one, append_assoc, append-nil}
 use Rattle.std.specs.List.{slice_get}
 use Rattle.std.specs.Option.{option_map, option_map_or}
 use Rattle.std.proofs.lemmas.List.{drop_all}

@@ -1,10 +1,11 @@
 //! The items of all units of a chart.
-ghost use Rattle.std.specs.Prelude.{◌≡◌, ℕ, ◌+◌, ◌++◌, ◌<◌, ◌^◌, [], length, map, filter, IsTrue, IfOk, OnOk, OnErr};
+ghost use Rattle.std.specs.Prelude.{List as Listed, ◌≡◌, ℕ, ◌+◌, ◌++◌, ◌<◌, ◌^◌, [], length, map, filter, IsTrue, IfOk, OnOk, OnErr};
 ghost use Rattle.std.specs.List.{range_with_len};
 ghost use Rattle.wf_model.specs.Accepted.{IsAccepted};
 ghost use Rattle.wf_model.specs.declared.outer.Outer.TheVariants.{Complete};
 ghost use Rattle.wf_semantics.specs.Run.{items_closed, open_now, new_items, numbered};
-ghost use Rattle.wf_semantics.specs.Admission.{may_be_admitted, may_come};
+ghost use Rattle.wf_semantics.specs.Admission.{is_pending, may_be_admitted, may_come};
+ghost use Rattle.wf_activities.specs.Completing.{completes_again};
 ghost use Rattle.wf_activities.specs.Stock.{items_at, steps_at, AreOf, AreStarted};
 
 use crate::{Items, admission, completions, growing, numbers, tables};
@@ -23,7 +24,7 @@ pub struct AllItems {
 }
 
 impl Model for AllItems {
-    ghost use Rattle.std.specs.Prelude.{map};
+    ghost use Rattle.std.specs.Prelude.{List as Listed, map};
     ghost use Rattle.wf_activities.specs.Stock.{Stock};
 
     ghost Value = { Stock };
@@ -49,23 +50,23 @@ impl AllItems {
         Ok(AllItems { units, wanted })
     }
 
-    /// Whether a unit may admit an outer where these entries are pending, or why not. Grows with the pending entries and the
-    /// outputs. Takes no memory.
+    /// Whether a unit may admit an outer, or why not, where `pending` tells whether a pending entry completes the same item.
+    /// Grows with the outputs. Takes no memory.
     pub fn may_admit(
         &self,
         chart: &Chart,
-        pending: &[Entry],
         unit: UnitId,
         outer: &Outer,
+        pending: bool,
     ) -> Result<(), OuterFault>
         requires accepted { IsAccepted chart.now }
         requires of { AreOf chart.now self.now }
-        ensures { result ≡ may_be_admitted chart.now (items_at self.now) pending.now unit.0 outer.now }
+        ensures { (entries : Listed Entry) → completes_again entries unit.0 outer.now ≡ pending → result ≡ may_be_admitted chart.now (items_at self.now) entries unit.0 outer.now }
     {
         match outer {
             Outer::Happen(event) => admission::admits_event(chart, unit, *event),
             Outer::Complete { item, act, outputs } => {
-                self.may_complete(chart, pending, unit, *item, *act, outputs.as_slice())
+                self.may_complete(chart, unit, *item, *act, outputs.as_slice(), pending)
             }
         }
     }
@@ -113,19 +114,19 @@ impl AllItems {
         Ok(numbers.starts)
     }
 
-    // Whether a unit may admit a completion.
+    // Whether a unit may admit a completion, or why not, where `pending` tells whether a pending entry completes the same item.
     fn may_complete(
         &self,
         chart: &Chart,
-        pending: &[Entry],
         unit: UnitId,
         item: u32,
         act: ActId,
         outputs: &[Output],
+        pending: bool,
     ) -> Result<(), OuterFault>
         requires accepted { IsAccepted chart.now }
         requires of { AreOf chart.now self.now }
-        ensures { result ≡ may_be_admitted chart.now (items_at self.now) pending.now unit.0 (Complete item act outputs.now) }
+        ensures { (entries : Listed Entry) → is_pending entries unit.0 item ≡ pending → result ≡ may_be_admitted chart.now (items_at self.now) entries unit.0 (Complete item act outputs.now) }
     {
         if !admission::is_act_at(chart, unit, act) {
             return Err(OuterFault::WrongUnit);
@@ -133,6 +134,6 @@ impl AllItems {
         let items = &self.units[unit.0 as usize];
         let wanted = &self.wanted.as_slice()[act.0 as usize];
         let answer = items.may_complete(item, act, outputs, wanted.as_slice());
-        admission::after(answer, admission::is_pending(pending, unit, item))
+        admission::after(answer, pending)
     }
 }

@@ -12,6 +12,7 @@
 
 mod outputs;
 mod passes;
+mod pending;
 mod run;
 mod snapshot;
 mod state;

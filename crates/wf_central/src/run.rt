@@ -7,6 +7,7 @@ ghost use Rattle.wf_central.specs.Kept.{notes_of, StartInStep};
 ghost use Rattle.wf_central.specs.Standings.{standing_of, state_of, taken_by, IsRun};
 
 use crate::CentralState;
+use crate::pending::Pending;
 use std::alloc::Global;
 use wf_model::{
     Chart, Checked, Duplicate, Entry, List, NoMemory, Outer, OuterFault, StepNotes, UnitId,
@@ -16,7 +17,7 @@ use wf_model::{
 #[derive(Drop)]
 pub struct CentralRun {
     central: CentralState,
-    pending: List<Entry>,
+    pending: Pending,
 }
 
 // Appends a copy of each entry of this unit.
@@ -58,7 +59,7 @@ impl CentralRun {
     {
         Ok(CentralRun {
             central: CentralState::first(alloc, checked)?,
-            pending: List::new(alloc),
+            pending: Pending::new(alloc),
         })
     }
 
@@ -70,7 +71,7 @@ impl CentralRun {
     }
 
     /// Admits an outer at a unit for the next step, or answers why not, by the rule of `CentralState::may_admit`. A refusal
-    /// leaves the run as it is, and so does `NoMemory`. Grows with the pending entries and the outputs.
+    /// leaves the run as it is, and so does `NoMemory`. Grows with the outputs.
     pub fn admit(
         &mut self,
         alloc: Global,
@@ -87,10 +88,8 @@ impl CentralRun {
         ensures state { state_of self.new ≡ state_of self.old }
         ensures err { OnErr result (self.new ≡ self.old) }
     {
-        let admitted = self
-            .central
-            .may_admit(checked, self.pending.as_slice(), unit, outer);
-        match admitted {
+        let pending = self.pending.completes(unit, outer);
+        match self.central.may_admit(checked, unit, outer, pending) {
             Ok(()) => {
                 let outer = outer.copy(alloc)?;
                 self.pending.push(Entry { unit, outer })?;
@@ -115,9 +114,9 @@ impl CentralRun {
         ensures taken { OnOk result (taken_by self.new ≡ taken_by self.old + 1) }
         ensures err { OnErr result (self.new ≡ self.old) }
     {
-        let coming = in_unit_order(alloc, checked.chart(), self.pending.as_slice())?;
+        let coming = in_unit_order(alloc, checked.chart(), self.pending.entries())?;
         let notes = self.central.step(alloc, checked, coming.as_slice())?;
-        self.pending = List::new(alloc);
+        self.pending = Pending::new(alloc);
         Ok(notes)
     }
 }

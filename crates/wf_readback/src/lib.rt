@@ -1,4 +1,4 @@
-//! The canonical text of a chart is read back as that chart.
+//! The canonical text of a chart is read back as that chart, and it is made of printable lines.
 //!
 //! - Promises: the canonical text of an accepted chart is a text of this chart by the grammar. It
 //!   means this chart if it has at most as many tokens, or as many bytes, as a text may have

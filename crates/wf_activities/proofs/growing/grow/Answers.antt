@@ -1,4 +1,4 @@
-use Rattle.std.proofs.Common.{ℕ, length, map, filter, take, ap, ◌∙◌, arith, length-append, length-take}
+use Rattle.std.proofs.Common.{length, filter, take, ap, arith, length-append, length-take}
 use Rattle.std.proofs.lemmas.List.{length-map}
 use Rattle.wf_model.specs.declared.update.StartAt.{StartAt}
 use Rattle.wf_semantics.specs.Items.{Item, new_item}

@@ -1,9 +1,9 @@
-use Rattle.std.proofs.Common.{◌≡◌, ℕ, ◌+◌, ◌<◌, ◌≤◌, ◌++◌, List, [], length, map, filter, get_or, sym, ◌∙◌, ap, subst, arith}
+use Rattle.std.proofs.Common.{◌≡◌, ℕ, ◌<◌, ◌++◌, List, [], length, map, filter, get_or, sym, ◌∙◌, ap, subst, arith}
 use Rattle.std.specs.Vec.{with_items}
 use Rattle.wf_semantics.specs.Items.{Item}
 use Rattle.wf_semantics.specs.Run.{completions_at, is_at, new_items}
 use Rattle.wf_activities.specs.UnitItems.{UnitItems}
-use Rattle.wf_activities.specs.Stock.{Stock, items_at, items_in, steps_in, room_in}
+use Rattle.wf_activities.specs.Stock.{Stock, items_at, items_in, steps_in}
 use Rattle.wf_activities.specs.Completed.{CompleteInTurn}
 use Rattle.wf_activities.proofs.Turns.{come_in_turn}
 use Rattle.wf_activities.proofs.Stepping.{refilled, length_close_all, rooms_stay, reserved_is, reserved_items, closed_is, closed_items, closed_steps, closed_length}

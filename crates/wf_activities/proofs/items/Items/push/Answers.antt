@@ -1,7 +1,6 @@
-use Rattle.std.proofs.Common.{◌≡◌, ℕ, ◌+◌, ◌-◌, ◌<◌, ◌++◌, [], ◌∷◌, Bool, false, List, length, get_or, set, ap, ap₂, ◌∙◌, arith}
+use Rattle.std.proofs.Common.{◌≡◌, ◌+◌, ◌-◌, ◌<◌, ◌++◌, [], ◌∷◌, false, length, get_or, set, ap, ap₂, ◌∙◌, arith}
 use Rattle.std.proofs.lemmas.Grind.{get_or_default_zero}
 use Rattle.std.specs.Vec.{vec_len, vec_capacity}
-use Rattle.wf_model.specs.Limits.{max_acts}
 use Rattle.wf_semantics.specs.Items.{new_item}
 use Rattle.wf_activities.specs.UnitItems.{UnitItems, items_from}
 use Rattle.wf_activities.proofs.Joined.{items_append, ok_pushed}

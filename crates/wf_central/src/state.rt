@@ -1,5 +1,5 @@
 //! The state of a chart.
-ghost use Rattle.std.specs.Prelude.{List as Listed, ◌≡◌, ◌+◌, ◌<◌, Some, length, map, slice_get, IsTrue, IfOk, OnOk, OnErr};
+ghost use Rattle.std.specs.Prelude.{List as Listed, ◌≡◌, ℕ, ◌+◌, ◌<◌, [], Some, length, map, slice_get, IsTrue, IfOk, OnOk, OnErr};
 ghost use Rattle.wf_model.specs.Accepted.{IsAccepted};
 ghost use Rattle.wf_model.specs.declared.chart.Chart.{Chart as AnyChart};
 ghost use Rattle.wf_model.specs.Limits.{max_steps};
@@ -8,6 +8,7 @@ ghost use Rattle.wf_semantics.specs.Run.{first_state, next_state};
 ghost use Rattle.wf_semantics.specs.Admission.{may_be_admitted, may_come};
 ghost use Rattle.wf_semantics.specs.Shown.{HasSorts};
 ghost use Rattle.wf_activities.specs.Completing.{completes_again};
+ghost use Rattle.wf_activities.specs.Stock.{steps_at};
 ghost use Rattle.wf_central.specs.Kept.{central_of, IsOf, StartInStep, notes_of};
 ghost use Rattle.wf_central.specs.Made.{MakesStep};
 
@@ -59,6 +60,7 @@ impl CentralState {
     pub fn first(alloc: Global, checked: &Checked) -> Result<CentralState, NoMemory>
         ensures state { IfOk result (λ c. central_of checked.now c ≡ first_state checked.now) }
         ensures of { IfOk result (λ c. IsOf checked.now c) }
+        ensures steps { IfOk result (λ c. (u : ℕ) → steps_at c.items u ≡ []) }
     {
         let active = default_bits(alloc, checked.chart())?;
         let store = first_values(alloc, checked.chart())?;

@@ -24,7 +24,7 @@ fn append_counted(text: &mut Bytes, words: &[u8], number: u64) -> Result<(), NoM
     append_number(text, number)
 }
 
-fn append_sight(text: &mut Bytes, chart: &Chart, sight: &Sight) -> Result<(), NoMemory>
+pub(crate) fn append_sight(text: &mut Bytes, chart: &Chart, sight: &Sight) -> Result<(), NoMemory>
     ensures { OnOk result (text.new ≡ text.old ++ spec.sight_text chart.now sight.now) }
 {
     append_counted(text, b"after ", sight.taken.into())?;
@@ -42,13 +42,13 @@ fn append_taken(text: &mut Bytes, taken: u32) -> Result<(), NoMemory>
 }
 
 #[tactic(auto, unfolding(crate::specs::Replies::admitted_text))]
-fn append_admitted(text: &mut Bytes, admitted: u64) -> Result<(), NoMemory>
+pub(crate) fn append_admitted(text: &mut Bytes, admitted: u64) -> Result<(), NoMemory>
     ensures { OnOk result (text.new ≡ text.old ++ spec.admitted_text admitted) }
 {
     append_counted(text, b" admitted ", admitted)
 }
 
-fn append_recovered(text: &mut Bytes, taken: u32, admitted: u64) -> Result<(), NoMemory>
+pub(crate) fn append_recovered(text: &mut Bytes, taken: u32, admitted: u64) -> Result<(), NoMemory>
     ensures { OnOk result (text.new ≡ text.old ++ spec.recovered_text taken admitted) }
 {
     text.append(b"recovered")?;

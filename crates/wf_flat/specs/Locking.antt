@@ -1,4 +1,4 @@
--- Views that stand beside their parts, and how much is started.
+-- Inner. Views that stand beside their parts, and how much is started.
 use Rattle.std.specs.Prelude.{ℕ, ◌≡◌, ◌+◌, ◌*◌, ◌<◌, ◌≤◌, ◌^◌, List, All, map, length}
 use Rattle.std.specs.List.{range_with_len}
 use Rattle.wf_model.specs.Limits.{max_units, max_transitions, max_actions}

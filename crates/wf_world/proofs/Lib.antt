@@ -6,3 +6,5 @@ pub mod Units
 pub mod Lines
 pub mod Sets
 pub mod Sounds
+pub mod Counts
+pub mod Inputs

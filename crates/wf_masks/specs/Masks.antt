@@ -1,4 +1,4 @@
--- Sets of numbers as words, and what fires by them.
+-- Of other calls. Sets of numbers as words, and what fires by them.
 use Rattle.std.specs.Prelude.{ℕ, ◌*◌, ◌/◌, ◌%◌, ◌==◌, ◌&&◌, not, nat_lt, Bool, List, [], length, map, slice_index, slice_index_or}
 use Rattle.std.specs.List.{list_any, range_with_len}
 use Rattle.std.specs.Int.{bit_at}

@@ -18,3 +18,4 @@ pub mod Fits
 pub mod Lengths
 pub mod Ordered
 pub mod Decided
+pub mod Bodies

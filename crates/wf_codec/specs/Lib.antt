@@ -9,3 +9,4 @@ pub mod Deciding
 pub mod Answers
 pub mod Finality
 pub mod Parts
+pub mod Bodies

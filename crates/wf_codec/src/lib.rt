@@ -2,6 +2,7 @@
 //! or the first field that is wrong, or that they are too few.
 #![tactic(auto)]
 
+mod body;
 mod entries;
 mod fault;
 mod field;
@@ -20,6 +21,7 @@ mod spelling;
 mod update;
 mod value;
 
+pub use body::{encode_admit, encode_head, encode_record, encode_turn};
 pub use fault::{CodecFault, RecordFault};
 pub use finality::{answer_is_final, fault_comes_at_once, fault_is_first, front_is_short};
 pub use in_range::is_in_range;
@@ -27,6 +29,6 @@ pub use laws::{
     bytes_are_numbers, one_record, one_spelling, record_is_decoded, record_is_short,
     spelled_is_decoded, spelling_is_short,
 };
-pub use record::{JournalRecord, decode_record, encode_record};
+pub use record::{JournalRecord, decode_record};
 pub use room::MAX_SPELLING;
 pub use update::{decode, encode};

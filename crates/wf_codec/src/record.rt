@@ -1,7 +1,7 @@
-//! Records of a journal as bytes.
+//! Records of a journal, and how they are read.
 ghost use Rattle.std.specs.Prelude.{◌≡◌, Some, IfOk, IsErrOf};
 ghost use Rattle.wf_codec.specs.Reading.{Reads};
-ghost use Rattle.wf_codec.specs.Records.{record_spelling, head_at, admit_at, turn_at, record_at, record_of, IsRecord, IsRecordInRange};
+ghost use Rattle.wf_codec.specs.Records.{record_spelling, head_at, admit_at, turn_at, record_at, record_of, IsRecord};
 ghost use Rattle.wf_codec.specs.Answers.{AnswersRecord};
 ghost use Rattle.wf_codec.specs.declared.record.JournalRecord.{JournalRecord as RecordValue};
 
@@ -9,10 +9,8 @@ use crate::fault::{FieldFault, Misfit, RecordFault};
 use crate::field::{ANY_NUMBER, ANY_NUMBERS, CHART_NUMBERS, bad, u8_in, u16_in, u32_in, u64_of};
 use crate::head::head_name_of;
 use crate::item::{Read, items_of};
-use crate::room::record_room;
-use crate::spelling::spell_whole;
 use std::alloc::Global;
-use wf_model::{Bytes, List, Name, NoMemory, Outer, Update};
+use wf_model::{List, Name, NoMemory, Outer, Update};
 
 /// The first byte of a head.
 pub const HEAD: u8 = b'H';
@@ -43,14 +41,6 @@ pub enum JournalRecord {
         inputs: List<Update>,
         sealed: u32,
     },
-}
-
-/// The one spelling of a record whose fields are in their ranges. Linear in its bytes.
-pub fn encode_record(alloc: Global, entry: &JournalRecord) -> Result<Bytes, NoMemory>
-    requires { IsRecordInRange entry.now }
-    ensures { IfOk result (λ bytes. bytes ≡ record_spelling entry.now) }
-{
-    spell_whole(alloc, record_room(entry), entry)
 }
 
 /// The record that has this body, the whole of it. Linear in the body.

@@ -1,13 +1,13 @@
-//! What a record is spelled as.
+//! What the parts of a record are spelled as.
 ghost use Rattle.std.specs.Prelude.{◌≡◌, ◌++◌, ◌∷◌, [], ◌<◌, ◌≤◌, ◌^◌, OnOk, length};
 ghost use Rattle.std.specs.List.{flat_map, AllByRecursion};
 ghost use Rattle.wf_model.specs.Limits.{max_name, max_units};
 ghost use Rattle.wf_codec.specs.Spelling.{two, four, eight, outer_spelling, spelling_of};
 ghost use Rattle.wf_codec.specs.Ranges.{any_numbers, IsOuter, IsInRange};
-ghost use Rattle.wf_codec.specs.Records.{named, record_spelling, IsRecordInRange};
+ghost use Rattle.wf_codec.specs.Records.{named};
 
 use crate::number::{spell_eight, spell_four, spell_two};
-use crate::record::{ADMIT, HEAD, JournalRecord, TURN};
+use crate::record::{ADMIT, HEAD, TURN};
 use crate::spelling::{Spell, spell_items};
 use wf_model::{Name, NoMemory, Outer, Update};
 
@@ -23,7 +23,12 @@ fn spell_name(name: &Name, bytes: &mut Vec<u8>) -> Result<(), NoMemory>
 }
 
 /// Adds a head.
-fn spell_head(version: u8, chart: &Name, unit: &Name, bytes: &mut Vec<u8>) -> Result<(), NoMemory>
+pub fn spell_head(
+    version: u8,
+    chart: &Name,
+    unit: &Name,
+    bytes: &mut Vec<u8>,
+) -> Result<(), NoMemory>
     requires chart { length chart.now ≤ max_name }
     requires unit { length unit.now ≤ max_name }
     ensures { OnOk result (bytes.new.items ≡ bytes.old.items ++ HEAD ∷ version ∷ named chart.now ++ named unit.now) }
@@ -34,7 +39,7 @@ fn spell_head(version: u8, chart: &Name, unit: &Name, bytes: &mut Vec<u8>) -> Re
 }
 
 /// Adds an admission.
-fn spell_admission(request: u64, outer: &Outer, bytes: &mut Vec<u8>) -> Result<(), NoMemory>
+pub fn spell_admission(request: u64, outer: &Outer, bytes: &mut Vec<u8>) -> Result<(), NoMemory>
     requires { IsOuter any_numbers outer.now }
     ensures { OnOk result (bytes.new.items ≡ bytes.old.items ++ ADMIT ∷ eight request ++ outer_spelling outer.now) }
 {
@@ -44,7 +49,7 @@ fn spell_admission(request: u64, outer: &Outer, bytes: &mut Vec<u8>) -> Result<(
 }
 
 /// Adds a turn.
-fn spell_turn(
+pub fn spell_turn(
     step: u32,
     inputs: &[Update],
     sealed: u32,
@@ -60,27 +65,4 @@ fn spell_turn(
     bytes.push(inputs.len() as u8)?;
     spell_items(inputs, bytes)?;
     spell_two(sealed, bytes)
-}
-
-impl Spell for JournalRecord {
-    ghost spelling = { record_spelling };
-
-    ghost fits = { IsRecordInRange };
-
-    #[tactic(auto, unfolding(crate::specs::Records::record_spelling), using(crate::proofs::Fits::inputs_few))]
-    fn spell(&self, bytes: &mut Vec<u8>) -> Result<(), NoMemory> {
-        match self {
-            JournalRecord::Head {
-                version,
-                chart,
-                unit,
-            } => spell_head(*version, chart, unit, bytes),
-            JournalRecord::Admit { request, outer } => spell_admission(*request, outer, bytes),
-            JournalRecord::Turn {
-                step,
-                inputs,
-                sealed,
-            } => spell_turn(*step, inputs.as_slice(), *sealed, bytes),
-        }
-    }
 }

@@ -12,4 +12,4 @@ pub use known::is_known_expr;
 pub use size::has_at_most;
 pub use snapshot::Snapshot;
 pub use sorts::type_of;
-pub use values::value;
+pub use values::{outcome, value};

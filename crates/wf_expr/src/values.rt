@@ -1,8 +1,9 @@
 //! The value of an expression.
-ghost use Rattle.std.specs.Prelude.{◌≡◌, IsOk, IfOk, Ok};
+ghost use Rattle.std.specs.Prelude.{◌≡◌, IsOk, IfOk, IsTrue, Ok};
 ghost use Rattle.wf_model.specs.Sorts.{sort_of};
 ghost use Rattle.wf_model.specs.Seen.{HasAll, val_sort, var_sorts};
 ghost use Rattle.wf_model.specs.Values as spec;
+ghost use Rattle.wf_expr.specs.Ints.{has_small_ints};
 
 use crate::Snapshot;
 use crate::arithmetic::{difference, negation, product, quotient, remainder, sum};
@@ -18,12 +19,15 @@ pub fn value<S: Snapshot>(e: &Expr, snap: &S) -> Result<Val, Fault>
     ensures exact { result ≡ spec.value_of (S.seen snap.now) e.now }
     ensures sort { IfOk result (λ val. sort_of (var_sorts (S.seen snap.now)) e.now ≡ Ok (val_sort val)) }
 {
-    evaluate(e, snap)
+    outcome(e, snap)
 }
 
-#[tactic(auto, using(wf_model::specs::declared::expr::Expr::the_lemmas, wf_model::specs::ValuesLaws::value_laws, wf_model::specs::ValuesLaws::operand_laws))]
-fn evaluate<S: Snapshot>(e: &Expr, snap: &S) -> Result<Val, Fault>
-    requires typed { IsOk (sort_of (var_sorts (S.seen snap.now)) e.now) }
+/// What comes of an expression over a snapshot that has a value for all that it names, of whatever sorts: an operand of
+/// a sort that its operator doesn't take is passed on, as the rules of values have it. Each integer of the expression is at most
+/// 9223372036854775807. Linear in the nodes, and takes no memory.
+#[tactic(auto, using(wf_model::specs::declared::expr::Expr::the_lemmas, wf_model::specs::ValuesLaws::value_laws, wf_model::specs::ValuesLaws::operand_laws, crate::specs::Ints::small_laws))]
+pub fn outcome<S: Snapshot>(e: &Expr, snap: &S) -> Result<Val, Fault>
+    requires small { IsTrue (has_small_ints e.now) }
     requires known { HasAll (S.seen snap.now) e.now }
     ensures { result ≡ spec.value_of (S.seen snap.now) e.now }
 {
@@ -35,20 +39,20 @@ fn evaluate<S: Snapshot>(e: &Expr, snap: &S) -> Result<Val, Fault>
         Expr::In(s) => Ok(Val::Bool(snap.is_in(*s))),
         Expr::Count(a) => Ok(Val::Int(i64::from(snap.count(*a)))),
         Expr::Done(a) => Ok(Val::Bool(snap.done(*a))),
-        Expr::Not(x) => match evaluate(x.get(), snap)? {
+        Expr::Not(x) => match outcome(x.get(), snap)? {
             Val::Bool(b) => Ok(Val::Bool(!b)),
             other => Ok(other),
         },
-        Expr::Neg(x) => match evaluate(x.get(), snap)? {
+        Expr::Neg(x) => match outcome(x.get(), snap)? {
             Val::Int(n) => negation(n),
             other => Ok(other),
         },
         Expr::Bin(op, left, right) => {
-            let left = evaluate(left.get(), snap)?;
+            let left = outcome(left.get(), snap)?;
             if is_decided(*op, &left) {
                 return Ok(left);
             }
-            let right = evaluate(right.get(), snap)?;
+            let right = outcome(right.get(), snap)?;
             binary(*op, left, right)
         }
     }

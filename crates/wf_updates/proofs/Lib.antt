@@ -3,3 +3,4 @@ mod NumberSets
 mod Cuts
 mod Rows
 mod Tabled
+pub mod Pairs

@@ -24,8 +24,8 @@ use wf_model::{
 };
 use wf_parts::{KnownEvent, KnownState};
 
-// The set of these states.
-fn state_set(alloc: Global, ids: &[StateId]) -> Result<Bits, NoMemory>
+/// The set of these states. In linear time in them and in the greatest of their numbers.
+pub fn state_set(alloc: Global, ids: &[StateId]) -> Result<Bits, NoMemory>
     ensures { IfOk result (λ bits. bit bits ≡ (λ s. list_any (λ id. id.0 == s) ids.now)) }
 {
     let numbers = state_numbers(alloc, ids)?;
@@ -168,8 +168,8 @@ pub fn vars_after(
     values_by(alloc, vars, last.as_slice(), best.as_slice())
 }
 
-// For each activity below the count, how many items the entries complete.
-fn done_below(alloc: Global, count: usize, next: &[Entry]) -> Result<Vec<u64>, NoMemory>
+/// For each activity below the count, how many items the entries complete. In linear time in the count and the entries.
+pub fn done_below(alloc: Global, count: usize, next: &[Entry]) -> Result<Vec<u64>, NoMemory>
     ensures { IfOk result (λ counts. counts.items ≡ map (λ a. done_count a (completions_in next.now)) (range_with_len 0 count)) }
 {
     let numbers = completed_acts(alloc, next)?;

@@ -2,6 +2,7 @@
 ghost use Rattle.std.specs.Prelude.{◌≡◌, flat_map, map, IfOk};
 ghost use Rattle.wf_views.specs.Absorbing.{writes_in, starts_in};
 ghost use Rattle.wf_views.specs.Views.{outputs_in, completions_in};
+ghost use Rattle.wf_updates.specs.Tables.{happening_in};
 
 use std::alloc::Global;
 use wf_model::{Entry, EventId, List, NoMemory, Outer, Output, StartAt, StateId, Update, Write};
@@ -76,4 +77,18 @@ pub fn completed_acts(alloc: Global, entries: &[Entry]) -> Result<Vec<u32>, NoMe
         }
     }
     Ok(acts)
+}
+
+/// The events that happen in the entries. In linear time.
+pub fn all_happening(alloc: Global, entries: &[Entry]) -> Result<List<EventId>, NoMemory>
+    ensures { IfOk result (λ events. events ≡ flat_map (λ x. happening_in x.outer) entries.now) }
+{
+    let mut events = List::new(alloc);
+    for entry in entries {
+        match &entry.outer {
+            Outer::Happen(event) => events.push(*event)?,
+            Outer::Complete { .. } => {}
+        }
+    }
+    Ok(events)
 }

@@ -6,10 +6,13 @@ mod after;
 mod cut;
 mod first;
 mod gather;
+mod now;
 mod numbers;
 mod sets;
 mod tables;
 mod view;
 
 pub use cut::relevant;
+pub use sets::{event_set, known_state_set};
+pub use tables::{entry_at, table_of};
 pub use view::View;

@@ -1,6 +1,6 @@
 //! Sets of numbers, as a bit for each: what is known.
-ghost use Rattle.std.specs.Prelude.{◌≡◌, map, IfOk};
-ghost use Rattle.std.specs.List.{range_with_len};
+ghost use Rattle.std.specs.Prelude.{◌≡◌, ◌==◌, map, IfOk};
+ghost use Rattle.std.specs.List.{list_any, range_with_len};
 ghost use Rattle.wf_model.specs.Bits.{bit};
 ghost use Rattle.wf_views.specs.Knowledge.{known_to};
 ghost use Rattle.wf_views.specs.Relevant.{is_listed, nothing};
@@ -11,8 +11,8 @@ use crate::numbers::{
     state_numbers, var_numbers,
 };
 use std::alloc::Global;
-use wf_model::{Bits, NoMemory};
-use wf_parts::{Known, PartData};
+use wf_model::{Bits, EventId, NoMemory};
+use wf_parts::{Known, KnownState, PartData};
 
 /// What is known, as sets of numbers.
 #[derive(Drop)]
@@ -39,6 +39,22 @@ pub fn set_of(alloc: Global, numbers: &[u32]) -> Result<Bits, NoMemory>
     ensures { IfOk result (λ bits. bit bits ≡ is_among numbers.now) }
 {
     bits_below(alloc, past_numbers(numbers), numbers)
+}
+
+/// The set of these events. In linear time in them and in the greatest of their numbers.
+pub fn event_set(alloc: Global, events: &[EventId]) -> Result<Bits, NoMemory>
+    ensures { IfOk result (λ bits. bit bits ≡ (λ k. list_any (λ event. event.0 == k) events.now)) }
+{
+    let numbers = event_numbers(alloc, events)?;
+    set_of(alloc, numbers.as_slice())
+}
+
+/// The set of these known states. In linear time in them and in the greatest of their numbers.
+pub fn known_state_set(alloc: Global, known: &[KnownState]) -> Result<Bits, NoMemory>
+    ensures { IfOk result (λ bits. bit bits ≡ (λ k. list_any (λ state. state.id.0 == k) known.now)) }
+{
+    let numbers = known_states(alloc, known)?;
+    set_of(alloc, numbers.as_slice())
 }
 
 impl KnownSets {

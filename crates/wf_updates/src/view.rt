@@ -1,14 +1,20 @@
 //! What a unit knows between its steps.
 ghost use Rattle.std.specs.Prelude.{◌≡◌, ◌+◌, ◌<◌, ◌^◌, All, IfOk, OnOk, OnErr};
-ghost use Rattle.wf_views.specs.Views.{first_view, count_now};
+ghost use Rattle.wf_model.specs.Bits.{bit};
+ghost use Rattle.wf_parts.specs.declared.data.PartData.{PartData};
+ghost use Rattle.wf_views.specs.Views.{first_view, count_now, sees, is_inside, is_done_now, is_there_now};
+ghost use Rattle.wf_updates.specs.Tables.{entry};
 ghost use Rattle.wf_views.specs.Absorbing.{absorbed, start_count, starts_in};
 
-use crate::after::{next_after, raised_after, states_after, unclosed_after, vars_after};
+use crate::after::{next_after, raised_after, state_set, states_after, unclosed_after, vars_after};
 use crate::first::{first_states, first_values, none_open};
+use crate::now::{counts_now, done_set, there_set, values_now};
 use crate::sets::KnownSets;
 use std::alloc::Global;
 use std::marker::Model;
-use wf_model::{ActId, Duplicate, Entry, EventId, List, NoMemory, Output, StateId, Update};
+use wf_model::{
+    ActId, Bits, Duplicate, Entry, EventId, List, NoMemory, Output, StateId, Update, Val,
+};
 use wf_parts::Part;
 
 /// What a unit knows after its steps so far. Contracts see it as the lists of the definition.
@@ -128,5 +134,44 @@ impl View {
         ensures { result.now ≡ self.now.next }
     {
         self.next.as_slice()
+    }
+
+    /// A table of the states that are in. In linear time in them and in the greatest of their numbers, and then each is read in constant time.
+    pub fn inside(&self, alloc: Global) -> Result<Bits, NoMemory>
+        ensures { IfOk result (λ bits. bit bits ≡ is_inside self.now) }
+    {
+        state_set(alloc, self.states.as_slice())
+    }
+
+    /// A table of the values of the variables, as the next step sees them: once its outputs came. In linear time in the view and in the
+    /// greatest number of its variables, and then each is read in constant time.
+    pub fn vars_now(&self, alloc: Global) -> Result<List<Option<Val>>, NoMemory>
+        ensures { IfOk result (λ table. (part : PartData) → entry table ≡ (sees part self.now).seen.var) }
+    {
+        values_now(alloc, self.vars.as_slice(), self.next.as_slice())
+    }
+
+    /// A table of the counts of open items, as the next step sees them: once its completions came. In linear time in the view and
+    /// in the greatest number of its activities, and then each is read in constant time.
+    pub fn unclosed_now(&self, alloc: Global) -> Result<List<Option<u32>>, NoMemory>
+        ensures { IfOk result (λ table. (part : PartData) → entry table ≡ (sees part self.now).seen.count) }
+    {
+        counts_now(alloc, self.unclosed.as_slice(), self.next.as_slice())
+    }
+
+    /// A table of the activities of which the next step completes an item. In linear time in its entries and in the greatest number of
+    /// these activities, and then each is read in constant time.
+    pub fn done_now(&self, alloc: Global) -> Result<Bits, NoMemory>
+        ensures { IfOk result (λ bits. bit bits ≡ is_done_now self.now) }
+    {
+        done_set(alloc, self.next.as_slice())
+    }
+
+    /// A table of the events that are there in the next step: raised in the last one, or happening. In linear time in these and in the
+    /// greatest of their numbers, and then each is read in constant time.
+    pub fn there_now(&self, alloc: Global) -> Result<Bits, NoMemory>
+        ensures { IfOk result (λ bits. bit bits ≡ is_there_now self.now) }
+    {
+        there_set(alloc, self.raised.as_slice(), self.next.as_slice())
     }
 }

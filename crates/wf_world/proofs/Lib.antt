@@ -8,3 +8,6 @@ pub mod Sets
 pub mod Sounds
 pub mod Counts
 pub mod Inputs
+pub mod Endings
+pub mod Starting
+pub mod Showing

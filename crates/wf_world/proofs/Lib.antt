@@ -11,3 +11,4 @@ pub mod Inputs
 pub mod Endings
 pub mod Starting
 pub mod Showing
+pub mod Suits

@@ -54,12 +54,13 @@ impl Items {
 
     /// Makes room: the next `grow` that adds at most so many items finds memory. The memory at least doubles where it grows, so
     /// that many calls for one item more cost as little as one for all. After `NoMemory` the items are as before. The room that
-    /// there was stays.
+    /// there was stays. With that room already, for one item or more, it answers Ok.
     pub fn reserve(&mut self, more: u32) -> Result<(), NoMemory>
         ensures unit { self.new.unit ≡ self.old.unit }
         ensures items { self.new.items ≡ self.old.items }
         ensures steps { self.new.steps ≡ self.old.steps }
         ensures ok { OnOk result (more ≤ self.new.room) }
+        ensures succeeds { 1 ≤ more → more ≤ self.old.room → IsOk result }
         ensures room { self.old.room ≤ self.new.room }
     {
         self.started.reserve(more as usize)?;

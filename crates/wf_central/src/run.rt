@@ -1,8 +1,9 @@
 //! A central run: outers are admitted one by one, and a step takes all that were admitted before it.
-ghost use Rattle.std.specs.Prelude.{◌≡◌, ◌<◌, ◌+◌, ◌++◌, ◌==◌, filter, IfOk, OnOk, OnErr};
+ghost use Rattle.std.specs.Prelude.{◌≡◌, ℕ, ◌<◌, ◌+◌, ◌++◌, [], ◌==◌, filter, IfOk, OnOk, OnErr};
 ghost use Rattle.wf_model.specs.Accepted.{IsAccepted};
 ghost use Rattle.wf_model.specs.Limits.{max_steps};
 ghost use Rattle.wf_semantics.specs.Standing as spec;
+ghost use Rattle.wf_activities.specs.Stock.{steps_at};
 ghost use Rattle.wf_central.specs.Kept.{notes_of, StartInStep};
 ghost use Rattle.wf_central.specs.Standings.{standing_of, state_of, taken_by, IsRun};
 
@@ -56,6 +57,7 @@ impl CentralRun {
             standing_of checked.now run ≡ spec.first_standing checked.now) }
         ensures of { IfOk result (λ run. IsRun checked.now run) }
         ensures taken { IfOk result (λ run. taken_by run ≡ 0) }
+        ensures steps { IfOk result (λ run. (u : ℕ) → steps_at (state_of run).items u ≡ []) }
     {
         Ok(CentralRun {
             central: CentralState::first(alloc, checked)?,
@@ -88,8 +90,8 @@ impl CentralRun {
         ensures state { state_of self.new ≡ state_of self.old }
         ensures err { OnErr result (self.new ≡ self.old) }
     {
-        let pending = self.pending.completes(unit, outer);
-        match self.central.may_admit(checked, unit, outer, pending) {
+        let again = self.pending.completes(unit, outer);
+        match self.central.may_admit_if(checked, unit, outer, again) {
             Ok(()) => {
                 let outer = outer.copy(alloc)?;
                 self.pending.push(Entry { unit, outer })?;

@@ -111,6 +111,10 @@ pub record IsLawful (disk : Told) : Type 0 where
   pub stands : (file : List ℕ) → disk.image ≡ Some file → disk.may_leave file
   pub counts_now : (t : ℕ) → t ≤ disk.moment → Within disk.may_leave (disk.left_since t)
   pub only_now : Within (disk.left_since disk.moment) disk.may_leave
+  -- a stroke that is to stop it is one that is to fail
+  pub stops_fail : (n : ℕ) → disk.is_to_stop n → disk.is_to_fail n
+  -- where there is room for more, there is room for less
+  pub less : (writes more bytes many : ℕ) → disk.has_room (writes + more) (bytes + many) → disk.has_room writes bytes
 
 -- A crash at any moment since old leaves a file that has P.
 pub record LeavesOnly (old new : Told) (P : List ℕ → Type 0) : Type 0 where

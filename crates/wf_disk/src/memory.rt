@@ -294,6 +294,7 @@ impl Disk for MemDisk {
 
         ensures done { OnOk result (fate_of self.old ≡ Done) }
         ensures fails { IsErrOf result WriteRefused.Failed → fate_of self.old ≢ Done }
+        ensures fails_at { fate_of self.old ≡ Fails → IsErrOf result WriteRefused.Failed }
         ensures next { (IsErrOf result WriteRefused.NoMemory → ⊥) → IsButForRoom (after_write self.old at bytes.now (fate_of self.old)) self.new }
         ensures unchanged { IsErrOf result WriteRefused.NoMemory → IsButForRoom self.old self.new }
     {

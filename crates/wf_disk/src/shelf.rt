@@ -55,6 +55,7 @@ pub trait DiskShelf {
         ensures taken { IfOk result (λ disk. IsTaken unit.now (told self.old) (told self.new) (Self.Disk.told disk)) }
         ensures others { (name : List ℕ) → name ≢ unit.now → KeepsDisk name (told self.old) (told self.new) }
         ensures refused { IsErr result → KeepsDisk unit.now (told self.old) (told self.new) }
+        ensures out { IsTrue (is_some ((told self.old).taken_at unit.now)) → IsErrOf result TakeRefused.Failed }
         ensures cause { ShelfHasCause (told self.old) (told self.new) (IsErrOf result TakeRefused.Failed) };
 
     /// Puts a disk back under the name of one that is out, also where it answers `Failed`. From then on the shelf

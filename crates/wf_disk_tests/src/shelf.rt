@@ -84,6 +84,8 @@ impl Disk for Dead {
       stands = λ file is. sym (ap (λ o. unwrap_or o []) is);
       counts_now = λ t within c now. now;
       only_now = λ c left. left;
+      stops_fail = λ n stops. stops;
+      less = λ writes more bytes many room. room;
     } };
 }
 

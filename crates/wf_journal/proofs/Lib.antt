@@ -11,3 +11,4 @@ pub mod Plans
 mod Walks
 mod StartPlans
 pub mod Answered
+mod Rooms

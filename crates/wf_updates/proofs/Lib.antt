@@ -3,4 +3,4 @@ mod NumberSets
 mod Cuts
 mod Rows
 mod Tabled
-mod Pairs
+pub mod Pairs

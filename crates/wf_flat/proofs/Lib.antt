@@ -1,0 +1,7 @@
+pub mod Reading
+pub mod Loops
+pub mod Showing
+pub mod Gathering
+pub mod Stepping
+pub mod Bounds
+pub mod Locking

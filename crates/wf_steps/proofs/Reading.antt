@@ -1,8 +1,9 @@
 -- What the frames of a journal make of a history, one more at a time.
-use Rattle.std.proofs.Common.{◌≡◌, ℕ, zero, suc, ◌+◌, ◌≤◌, ◌==◌, ◌&&◌, cond, Bool, true, false, List, [], ◌∷◌, map, take, drop, length, Option, Some, None, Result, Ok, Err, refl, sym, ap, ap₂, ◌∙◌, subst, arith}
+use Rattle.std.proofs.Common.{◌≡◌, ℕ, zero, suc, ◌+◌, ◌==◌, ◌&&◌, cond, Bool, true, false, List, [], ◌∷◌, map, drop, length, Option, Some, None, Result, Ok, Err, refl, sym, ap, ap₂, ◌∙◌, subst, arith}
 use Rattle.std.specs.Prelude.{MatchResult}
-use Rattle.wf_journal.specs.Frames.{Frame, open_gate, header, number_of, fits, frames_after, end_behind, frames_from, end_of, bodies_of, frames_at}
+use Rattle.wf_journal.specs.Frames.{Frame, open_gate, header, number_of, fits, frames_after, frames_from, end_of, bodies_of, frames_at}
 use Rattle.wf_journal.specs.Journal.{IsPlace, IsRead}
+use Rattle.wf_journal.proofs.Ends.{end_after, end_from-walk}
 use Rattle.wf_parts.specs.declared.data.PartData.{PartData}
 use Rattle.wf_codec.specs.Records.{record_of}
 use Rattle.wf_histories.specs.Histories.{History}
@@ -17,47 +18,21 @@ bodies file place = map (λ (frame : Frame). frame.body) (frames_from file place
 
 -- AT THE END
 
-take_short : {A : Type 0} (k : ℕ) (xs : List A) → length (take k xs) ≤ k
-take_short zero xs = omega arith
-take_short (suc k) [] = omega arith
-take_short (suc k) (x ∷ xs) = let ih = take_short k xs in omega (arith, ih)
-
--- frames end behind the place where they begin
-behind : (p at skip : ℕ) (xs : List ℕ) → p ≤ at + skip → p ≤ end_behind p (frames_after at skip xs)
-behind p at (suc k) [] l = omega arith
-behind p at (suc k) (x ∷ xs) l = behind p (at + 1) k xs (omega (arith, l))
-behind p at zero [] l = omega arith
-behind p at zero (g ∷ []) l = omega arith
-behind p at zero (g ∷ (a ∷ [])) l = omega arith
-behind p at zero (g ∷ (a ∷ (b ∷ []))) l = omega arith
-behind p at zero (g ∷ (a ∷ (b ∷ (c ∷ [])))) l = omega arith
-behind p at zero (g ∷ (a ∷ (b ∷ (c ∷ (d ∷ rest))))) l =
-    let short = take_short (number_of a b c d) rest in
-    go ((g == open_gate) && fits (number_of a b c d) rest) (behind (at + header + length (take (number_of a b c d) rest)) (at + header) (number_of a b c d) rest (omega (arith, short)))
-  where
-    go : (t : Bool) → at + header + length (take (number_of a b c d) rest) ≤ end_behind (at + header + length (take (number_of a b c d) rest)) (frames_after (at + header) (number_of a b c d) rest) →
-        p ≤ end_behind p (cond t (record { place = at; body = take (number_of a b c d) rest } ∷ frames_after (at + header) (number_of a b c d) rest) [])
-    go true ih = omega (arith, ih, l)
-    go false ih = omega arith
-
-none_after : (at : ℕ) (xs : List ℕ) → at ≡ end_behind at (frames_after at 0 xs) → frames_after at 0 xs ≡ []
+none_after : (at : ℕ) (xs : List ℕ) → end_after 0 xs ≡ 0 → frames_after at 0 xs ≡ []
 none_after at [] e = refl
 none_after at (g ∷ []) e = refl
 none_after at (g ∷ (a ∷ [])) e = refl
 none_after at (g ∷ (a ∷ (b ∷ []))) e = refl
 none_after at (g ∷ (a ∷ (b ∷ (c ∷ [])))) e = refl
-none_after at (g ∷ (a ∷ (b ∷ (c ∷ (d ∷ rest))))) e =
-    let short = take_short (number_of a b c d) rest in
-    go ((g == open_gate) && fits (number_of a b c d) rest) (behind (at + header + length (take (number_of a b c d) rest)) (at + header) (number_of a b c d) rest (omega (arith, short))) e
+none_after at (g ∷ (a ∷ (b ∷ (c ∷ (d ∷ rest))))) e = go ((g == open_gate) && fits (number_of a b c d) rest) e
   where
-    go : (t : Bool) → at + header + length (take (number_of a b c d) rest) ≤ end_behind (at + header + length (take (number_of a b c d) rest)) (frames_after (at + header) (number_of a b c d) rest) →
-        at ≡ end_behind at (cond t (record { place = at; body = take (number_of a b c d) rest } ∷ frames_after (at + header) (number_of a b c d) rest) []) →
-        cond t (record { place = at; body = take (number_of a b c d) rest } ∷ frames_after (at + header) (number_of a b c d) rest) [] ≡ []
-    go true ih q = absurd (omega (arith, ih, q))
-    go false ih q = refl
+    go : (t : Bool) → cond t (suc (suc (suc (suc (suc (end_after (number_of a b c d) rest)))))) 0 ≡ 0 →
+        cond t (record { place = at; body = Rattle.std.proofs.Common.take (number_of a b c d) rest } ∷ frames_after (at + header) (number_of a b c d) rest) [] ≡ []
+    go true q = absurd (omega (arith, q))
+    go false q = refl
 
 no_frames : (file : List ℕ) (place : ℕ) → IsPlace file place → place ≡ end_of file → frames_from file place ≡ []
-no_frames file place is ends = none_after place (drop place file) (ends ∙ is.end)
+no_frames file place is ends = none_after place (drop place file) (let q = is.end in omega (arith, ends, q, end_from-walk file place))
 
 pub rest_end : (part : PartData) (file : List ℕ) (place : ℕ) (h : History) → IsPlace file place → place ≡ end_of file → read_on part (bodies file place) place h ≡ Ok h
 rest_end part file place h is ends = ap (λ (fs : List Frame). read_on part (map (λ (frame : Frame). frame.body) fs) place h) (no_frames file place is ends)

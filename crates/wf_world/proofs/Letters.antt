@@ -1,8 +1,9 @@
 -- The bytes of messages stay as they were sent, and the machine counts as many as there are.
-use Rattle.std.proofs.Common.{◌≡◌, ℕ, ◌+◌, ◌<◌, ◌≤◌, List, [], ◌∷◌, ◌++◌, map, length, refl, sym, ap, ap₂, ◌∙◌, arith}
+use Rattle.std.proofs.Common.{◌≡◌, ℕ, ◌+◌, ◌<◌, ◌≤◌, true, false, List, [], ◌∷◌, ◌++◌, map, length, refl, sym, ap, ap₂, ◌∙◌, arith, rules}
 use Rattle.std.specs.List.{sum_by, AllByRecursion}
 use Rattle.std.proofs.lemmas.List.{length-append}
-use Rattle.std.proofs.lemmas.List.Sums.{sum_by-cons, sum_by-append}
+use Rattle.std.proofs.lemmas.List.Sums.{sum_by-cons, sum_by-append, sum_by_push}
+use Rattle.wf_model.specs.Limits.{max_sent}
 use Rattle.wf_model.specs.declared.chart.Chart.{Chart}
 use Rattle.wf_model.specs.declared.update.Update.{Update}
 use Rattle.wf_codec.specs.Spelling.{spelling_of}
@@ -13,7 +14,7 @@ use Rattle.wf_machine.specs.Machine.{CountingMachine, Message, server}
 use Rattle.wf_machine.specs.Account.{IsAccount, MachineGrows}
 use Rattle.wf_machine.proofs.Stays.{update_on}
 use Rattle.wf_world.specs.declared.mail.Sent.{Sent}
-use Rattle.wf_world.specs.Sent.{bytes_of, sent_bytes}
+use Rattle.wf_world.specs.Sent.{bytes_of, sent_bytes, is_over}
 use Rattle.wf_world.specs.Mail.{bytes_in, message_of, IsMade, IsLetter, AreLetters}
 
 -- THE BYTES STAY while the machine grows
@@ -69,3 +70,24 @@ sent_is chart m messages are letters = ap (λ (xs : List Message). sum_by (λ (x
 pub all_made : (chart : Chart) (m : CountingMachine) (messages : List Sent) → AreLetters chart m messages → AllByRecursion (IsMade m) (map message_of messages)
 all_made chart m [] are = tt
 all_made chart m (x ∷ xs) are = (are.0.made, all_made chart m xs are.1)
+
+-- THE LIMIT
+
+-- it is passed where the messages would be too many with the next one, whatever comes after it
+pub passes_it : (chart : Chart) (after : CountingMachine) (messages : List Sent) (x : Sent) (more : List Message) → after.messages ≡ map message_of (messages ++ x ∷ []) ++ more → AreLetters chart after (messages ++ x ∷ []) →
+    max_sent < bytes_in messages + length x.bytes → is_over chart after ≡ true
+unfolding sent_bytes
+passes_it chart after messages x more are letters over =
+    let all : sum_by (λ (y : Message). length (bytes_of chart after y)) after.messages ≡ sum_by (λ (y : Message). length (bytes_of chart after y)) (map message_of (messages ++ x ∷ [])) + sum_by (λ (y : Message). length (bytes_of chart after y)) more =
+    ap (λ (ys : List Message). sum_by (λ (y : Message). length (bytes_of chart after y)) ys) are ∙ sum_by-append (λ (y : Message). length (bytes_of chart after y)) (map message_of (messages ++ x ∷ [])) more in
+    let same = counted chart after (messages ++ x ∷ []) letters in
+    let push : bytes_in (messages ++ x ∷ []) ≡ bytes_in messages + length x.bytes = sum_by_push (λ (y : Sent). length y.bytes) messages x in
+    let enough : max_sent < sum_by (λ (y : Message). length (bytes_of chart after y)) after.messages = omega (arith, over, all, same, push) in
+    search (rules, enough)
+
+-- and it isn't where they are few enough
+pub keeps_it : (chart : Chart) (m : CountingMachine) (messages : List Sent) → m.messages ≡ map message_of messages → AreLetters chart m messages → bytes_in messages ≤ max_sent → is_over chart m ≡ false
+keeps_it chart m messages are letters few =
+    let is = sent_is chart m messages are letters in
+    let within : sent_bytes chart m ≤ max_sent = omega (arith, is, few) in
+    search (rules, within)

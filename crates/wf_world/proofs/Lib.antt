@@ -8,3 +8,7 @@ pub mod Sets
 pub mod Sounds
 pub mod Counts
 pub mod Inputs
+pub mod Endings
+pub mod Starting
+pub mod Showing
+pub mod Suits

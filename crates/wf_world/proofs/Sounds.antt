@@ -72,17 +72,17 @@ module _ (chart : Chart) (ok : IsAccepted chart) (units : List UnitState) (count
   abbrev n : ℕ
   n = length chart.units
 
-  abbrev h : ℕ → History
+  abbrev pub h : ℕ → History
   h = hist_of units
 
   -- as a world with no message, and nothing in doubt
-  abbrev plain : World
+  abbrev pub plain : World
   plain = record { hist = h; held = λ u. (unit_at units u).held; messages = []; doubt = λ u. None }
 
   no_record : (r : Record) → None ≡ Some r → ⊥
   no_record r e = cc
 
-  plain_sound : Sound chart plain
+  pub plain_sound : Sound chart plain
   plain_sound = record {
     agree = s.agree;
     fits = s.fits;

@@ -5,3 +5,4 @@ pub mod Mail
 pub mod Fuses
 pub mod Units
 pub mod Sounds
+pub mod Shown

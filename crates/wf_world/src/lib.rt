@@ -12,6 +12,7 @@ mod fault;
 mod fuse;
 mod laws;
 mod mail;
+mod sight;
 
 pub use fault::ActFault;
 pub use laws::{refusals_pass, runs_are_plays};

@@ -1,4 +1,4 @@
-use Rattle.std.proofs.Common.{◌∙◌, ◌*◌, sym, arith}
+use Rattle.std.proofs.Common.{◌*◌, sym, arith}
 use Rattle.wf_masks.proofs.Words.{none_yet, none_meet, some_meet, bits_long}
 use Rattle.wf_masks.proofs.masks.Bits.meets.Goals as goal
 

@@ -12,3 +12,4 @@ pub mod Endings
 pub mod Starting
 pub mod Showing
 pub mod Suits
+pub mod Merging

@@ -13,3 +13,4 @@ pub mod Starting
 pub mod Showing
 pub mod Suits
 pub mod Merging
+pub mod MergedIs

@@ -1,5 +1,11 @@
-//! Runs a workflow chart: gives the words of the command line, standard input, standard output and the clock to the
-//! top call, and ends with the number of its status.
+//! The program: it gives the words of the command line, standard input, standard output and the
+//! clock to the top call, and ends with the number of its status. It decides no more than that the
+//! first word is the program's own name, and that words which aren't text are none.
+//!
+//! - Promises: nothing; what it does is `wf_top::mentor`, over the system's ends of `wf_io`.
+//! - Doesn't say: that the system gives and takes what std's statements say, which is trusted.
+//! - A caller: the launcher `mentor` at the top of the repository.
+//! - A change begins here only if a run is to get another end from the system.
 #![tactic(auto)]
 
 use std::env;

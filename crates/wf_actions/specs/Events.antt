@@ -1,4 +1,4 @@
--- Events by their numbers.
+-- Of other calls. Events by their numbers, for the union of raised events.
 use Rattle.std.specs.Prelude.{ℕ, List, map}
 use Rattle.wf_model.specs.declared.ids.EventId.{EventId}
 

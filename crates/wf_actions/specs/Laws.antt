@@ -1,4 +1,4 @@
--- Laws of merged writes, of the union of events and of ordered starts.
+-- Of the laws. Merged writes, the union of events and ordered starts.
 use Rattle.std.specs.Prelude.{ℕ, ◌≡◌, ◌++◌, ◌<◌, ◌↔◌, List, [], map, filter, Contains, Some, None}
 use Rattle.std.specs.List.{last_or}
 use Rattle.std.specs.Option.{option_to_list}

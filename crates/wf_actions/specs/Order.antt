@@ -1,4 +1,4 @@
--- Where a start stands among those of a step.
+-- Of other calls. Where a start stands among those of a step.
 use Rattle.std.specs.Prelude.{ℕ, ◌==◌, ◌&&◌, Bool}
 use Rattle.std.specs.declared.cmp.Ordering.{Ordering}
 use Rattle.std.specs.Ordering.{nat_cmp, ordering_then}

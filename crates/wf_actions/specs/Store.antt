@@ -1,4 +1,4 @@
--- What fired transitions write, and the store after writes.
+-- Of the laws. What fired transitions write, and the store after writes.
 use Rattle.std.specs.Prelude.{ℕ, List, [], ◌∷◌, Option, None, option_map, filter_map, flat_map, slice_set}
 use Rattle.std.specs.Result.{result_ok}
 use Rattle.wf_model.specs.declared.chart.Action.{Action}

@@ -1,4 +1,4 @@
--- Which write of a variable stays.
+-- Of other calls. Which write of a variable stays.
 use Rattle.std.specs.Prelude.{ℕ, ◌+◌, ◌==◌, max, nat_lt, if◌then◌else◌, List, Option, Some, None, filter, filter_map, fold}
 use Rattle.std.specs.List.{range_with_len}
 use Rattle.wf_model.specs.declared.update.Write.{Write}

@@ -1,4 +1,13 @@
-//! What the units did in a step, put together: their writes, raised events and starts.
+//! What the units do in a step, put together: their writes, raised events and starts, however the
+//! step was cut among them.
+//!
+//! - Promises: of the writes to one variable that of the greatest transition stays, and of one
+//!   transition the last. Raised events ascend, each once; starts go by transition and place. Laws
+//!   say that what the fired transitions do, put together so, are the effects of the step.
+//! - Doesn't say: that the lists which it is given are those of a step.
+//! - A caller: `wf_io_tests`. No command calls it; its definition of which write stays is cited by
+//!   the views of `wf_views`.
+//! - A change of which write wins begins here, and in `specs/Effects.antt` of `wf_semantics`.
 #![tactic(auto)]
 
 mod events;

@@ -1,5 +1,5 @@
 -- The answer to a completion at a unit, from the answer of its item.
-use Rattle.std.proofs.Common.{◌≡◌, ℕ, zero, suc, ◌<◌, ◌≤◌, ◌==◌, ◌&&◌, ◌||◌, not, cond, nat_lt, Bool, true, false, List, [], ◌∷◌, map, length, get_or, Option, Some, None, Ok, Err, refl, sym, ◌∙◌, ap, arith, true≢false, eqb-true, ltb-true, inl, inr}
+use Rattle.std.proofs.Common.{◌≡◌, ℕ, zero, suc, ◌<◌, ◌==◌, ◌||◌, not, cond, nat_lt, Bool, true, false, List, [], ◌∷◌, map, length, get_or, Option, Some, None, Ok, Err, refl, sym, ◌∙◌, ap, arith, true≢false, eqb-true, ltb-true, inl, inr}
 use Rattle.std.specs.List.{slice_get, list_all}
 use Rattle.std.specs.Option.{option_map, option_map_or}
 use Rattle.std.proofs.lemmas.Option.{slice_get_past}
@@ -17,7 +17,6 @@ use Rattle.wf_model.specs.declared.outer.OuterFault.TheVariants.{WrongUnit, NoIt
 use Rattle.wf_model.specs.Accepted.{IsAccepted, is_unit, is_known_activity}
 use Rattle.wf_model.specs.Sorts.{var_sort}
 use Rattle.wf_semantics.specs.Items.{Item, item_at}
-use Rattle.wf_semantics.specs.Run.{act_unit}
 use Rattle.wf_semantics.specs.Admission.{is_act_at, is_of, is_closed, is_pending, may_be_admitted}
 use Rattle.wf_model.proofs.Bools.{and_both}
 use Rattle.wf_semantics.proofs.Children.{lt_or_ge, item_at as item_there}
@@ -26,7 +25,7 @@ use Rattle.wf_model.proofs.Items.{all_at}
 use Rattle.wf_activities.specs.Completing.{are_wanted, may_complete, unless_pending}
 use Rattle.wf_activities.specs.Laws.{HaveSorts, CompletesByAdmission}
 use Rattle.wf_activities.specs.UnitItems.{UnitItems}
-use Rattle.wf_activities.specs.Stock.{Stock, AreOf, items_at, with_sort, with_sorts, wanted_of, acts_of}
+use Rattle.wf_activities.specs.Stock.{Stock, AreOf, items_at, with_sorts, wanted_of}
 use Rattle.wf_activities.proofs.LawsHold.{values_wanted}
 
 -- an activity that is at a unit is one of the chart

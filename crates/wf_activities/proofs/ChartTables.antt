@@ -1,6 +1,6 @@
 -- The tables of a chart, as they are made.
 use Rattle.std.proofs.Common.{◌≡◌, ℕ, ◌+◌, ◌<◌, ◌≤◌, List, [], ◌∷◌, ◌++◌, length, map, replicate, take, get_or, Option, Some, None, refl, sym, ◌∙◌, ap, ap₂, arith}
-use Rattle.std.specs.List.{slice_get, cons_option, filter_map}
+use Rattle.std.specs.List.{slice_get, cons_option}
 use Rattle.std.specs.Option.{option_map}
 use Rattle.std.proofs.lemmas.Bool.{leb-true}
 use Rattle.std.proofs.lemmas.List.{take_more, length-replicate}
@@ -12,7 +12,7 @@ use Rattle.wf_model.specs.declared.chart.Chart.{Chart}
 use Rattle.wf_model.specs.Accepted.{IsAccepted, is_small}
 use Rattle.wf_semantics.proofs.Facts.{rules}
 use Rattle.wf_semantics.specs.Items.{Item}
-use Rattle.wf_activities.specs.Stock.{Stock, AreOf, items_at, steps_at, with_sort, with_sorts, acts_of, wanted_of}
+use Rattle.wf_activities.specs.Stock.{Stock, AreOf, items_at, steps_at, with_sort, with_sorts, wanted_of}
 use Rattle.wf_activities.proofs.Rows.{get_replicate}
 
 few_of : (chart : Chart) → is_small chart ≡ Rattle.std.proofs.Common.true → (length chart.units ≤ max_units) × (length chart.acts ≤ max_acts)
@@ -43,8 +43,8 @@ sort_read chart x o e = ap (λ (p : Option Variable). option_map {U = VarId × S
     twice (Some v) = refl
 
 -- what is made for a chart, with no item
-pub made_of : (chart : Chart) (stock : Stock) → stock.items ≡ replicate (length chart.units) [] → stock.acts ≡ acts_of chart → stock.wanted ≡ wanted_of chart → AreOf chart stock
-made_of chart stock items acts wanted = record { units = ap length items ∙ length-replicate (length chart.units) []; acts = acts; wanted = wanted }
+pub made_of : (chart : Chart) (stock : Stock) → stock.items ≡ replicate (length chart.units) [] → stock.wanted ≡ wanted_of chart → AreOf chart stock
+made_of chart stock items wanted = record { units = ap length items ∙ length-replicate (length chart.units) []; wanted = wanted }
 
 pub no_items_at : (stock : Stock) (n : ℕ) → stock.items ≡ replicate n [] → (u : ℕ) → items_at stock u ≡ []
 no_items_at stock n e u = ap (λ (l : List (List Item)). get_or l u []) e ∙ get_replicate [] n u

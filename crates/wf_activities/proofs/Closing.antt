@@ -1,5 +1,5 @@
 -- Items that are closed one after another.
-use Rattle.std.proofs.Common.{◌≡◌, ◌≢◌, ℕ, zero, suc, ◌+◌, ◌<◌, ◌≤◌, ◌==◌, cond, Bool, true, false, List, [], ◌∷◌, ◌++◌, length, map, drop, get_or, set, inl, inr, refl, sym, ◌∙◌, ap, ap₂, subst, arith, eq-eqb, eqb-true, true≢false, get_or-set_other, drop-cons, add-one}
+use Rattle.std.proofs.Common.{◌≡◌, ℕ, zero, suc, ◌+◌, ◌<◌, ◌==◌, cond, Bool, true, false, List, [], ◌∷◌, ◌++◌, length, map, drop, get_or, set, inl, inr, refl, sym, ◌∙◌, ap, ap₂, subst, arith, eq-eqb, eqb-true, true≢false, get_or-set_other, drop-cons, add-one}
 use Rattle.std.proofs.lemmas.List.{length-map, get_or-map, get_or_past, map-set}
 use Rattle.std.proofs.lemmas.Grind.{get_or-set_at}
 use Rattle.wf_model.specs.declared.ids.ActId.{ActId}
@@ -48,18 +48,18 @@ pub items_read : (units : List UnitItems) (u : ℕ) (d : UnitItems) → u < leng
 items_read units u d lt = get_or-map (λ (i : UnitItems). i.items) units u d [] lt
 
 -- a part of what the units keep, where one unit has changed
-pub part_set : {X : Type 0} (part : UnitItems → List X) (units : List UnitItems) (k : ℕ) (y : UnitItems) (v : ℕ) → k < length units → get_or (map part (set units k y)) v [] ≡ cond (k == v) (part y) (get_or (map part units) v [])
-part_set {X} part units k y v lt = ap (λ (l : List (List X)). get_or l v []) (map-set part units k y) ∙ go (k == v) refl
+pub part_set : {X : Type 0} (part : UnitItems → X) (z : X) (units : List UnitItems) (k : ℕ) (y : UnitItems) (v : ℕ) → k < length units → get_or (map part (set units k y)) v z ≡ cond (k == v) (part y) (get_or (map part units) v z)
+part_set {X} part z units k y v lt = ap (λ (l : List X). get_or l v z) (map-set part units k y) ∙ go (k == v) refl
   where
-    go : (p : Bool) → (k == v) ≡ p → get_or (set (map part units) k (part y)) v [] ≡ cond p (part y) (get_or (map part units) v [])
-    go true q = get_or-set_at (map part units) k v (part y) [] (sym (eqb-true k v q)) (omega (arith, length-map units part))
-    go false q = get_or-set_other (map part units) k v (part y) [] (λ r. true≢false (sym (eq-eqb k v (sym r)) ∙ q))
+    go : (p : Bool) → (k == v) ≡ p → get_or (set (map part units) k (part y)) v z ≡ cond p (part y) (get_or (map part units) v z)
+    go true q = get_or-set_at (map part units) k v (part y) z (sym (eqb-true k v q)) (omega (arith, length-map units part))
+    go false q = get_or-set_other (map part units) k v (part y) z (λ r. true≢false (sym (eq-eqb k v (sym r)) ∙ q))
 
 -- one entry's item is closed at its unit, and no other
 pub closed_one : (units : List UnitItems) (x : Entry) (n : ℕ) (a : ActId) (outputs : List Output) (y d : UnitItems) → x.outer ≡ Complete n a outputs → x.unit.0 < length units
     → y.items ≡ close n (get_or units x.unit.0 d).items → (v : ℕ) → items_in (set units x.unit.0 y) v ≡ close_all (completions_at v (x ∷ [])) (items_in units v)
 closed_one units x n a outputs y d e lt new v =
-    part_set (λ (i : UnitItems). i.items) units x.unit.0 y v lt ∙ go (x.unit.0 == v) refl ∙ ap (λ (cs : List Completion). close_all cs (items_in units v)) (sym (completes_one x n a outputs v e))
+    part_set (λ (i : UnitItems). i.items) [] units x.unit.0 y v lt ∙ go (x.unit.0 == v) refl ∙ ap (λ (cs : List Completion). close_all cs (items_in units v)) (sym (completes_one x n a outputs v e))
   where
     go : (p : Bool) → (x.unit.0 == v) ≡ p → cond p y.items (items_in units v) ≡ close_all (cond p (record { item = n; act = a } ∷ []) []) (items_in units v)
     go true q = new ∙ ap (close n) (sym (items_read units x.unit.0 d lt) ∙ ap (items_in units) (eqb-true x.unit.0 v q))

@@ -132,6 +132,38 @@ all_below acts ls reach a b small le = go (leb max_acts reach) refl le
         All-weaker (λ (s : StartAt). s.act.0 < max_acts) (λ (s : StartAt). s.act.0 < reach) (λ s lt. omega (arith, lt, wide)) (listed acts ls) (small_listed max_acts acts ls small)
     go false e h = λ k d lt. absurd (omega arith)
 
+-- where there is room the counts reach to all activities, and both lists have a place behind their ends
+pub room_parts : (reach a b : ℕ) → 0 < room_of reach a b → (max_acts ≤ reach) × (0 < a) × (0 < b)
+room_parts reach a b h = go (leb max_acts reach) refl h
+  where
+    go : (p : Bool) → leb max_acts reach ≡ p → 0 < cond p (min a b) 0 → (max_acts ≤ reach) × (0 < a) × (0 < b)
+    go true e k = (leb-true max_acts reach e, omega arith, omega arith)
+    go false e k = absurd (omega arith)
+
+-- one place less in each list is room for one item less
+pub room_less : (reach a b c d : ℕ) → a ≤ c + 1 → b ≤ d + 1 → room_of reach a b ≤ room_of reach c d + 1
+room_less reach a b c d h k = go (leb max_acts reach)
+  where
+    go : (p : Bool) → cond p (min a b) 0 ≤ cond p (min c d) 0 + 1
+    go true = omega arith
+    go false = omega arith
+
+-- one item more is counted
+pub counted_one : (counts : List ℕ) (s : ActId × ℕ) (m : ℕ) → s.0.0 < length counts → m ≡ get_or counts s.0.0 0 → (a : ℕ) → get_or (set counts s.0.0 (m + 1)) a 0 ≡ get_or counts a 0 + starts_count a (s ∷ [])
+counted_one counts s m within e a = go (s.0.0 == a) refl
+  where
+    go : (p : Bool) → (s.0.0 == a) ≡ p → get_or (set counts s.0.0 (m + 1)) a 0 ≡ get_or counts a 0 + starts_count a (s ∷ [])
+    go true q =
+        let same : s.0.0 ≡ a = eqb-true s.0.0 a q in
+        let now : get_or (set counts s.0.0 (m + 1)) a 0 ≡ m + 1 = get_or-set_at counts s.0.0 a (m + 1) 0 (sym same) within in
+        let was : m ≡ get_or counts a 0 = e ∙ ap (λ (k : ℕ). get_or counts k 0) same in
+        let own : one (s.0.0 == a) ≡ 1 = ap one q in
+        omega (arith, now, was, own)
+    go false q =
+        let other : a ≢ s.0.0 = λ r. true≢false (sym (eq-eqb s.0.0 a (sym r)) ∙ q) in
+        let own : one (s.0.0 == a) ≡ 0 = ap one q in
+        omega (arith, get_or-set_other counts s.0.0 a (m + 1) 0 other, own)
+
 open_at : (items : List Item) (k : ℕ) (x : Item) → slice_get items k ≡ Some x → is_open (slice_get items k) ≡ true → x.closed ≡ false
 open_at items k x e h = go x.closed refl
   where

@@ -1,5 +1,5 @@
 -- How many items of each activity entries complete.
-use Rattle.std.proofs.Common.{◌≡◌, ◌≢◌, ℕ, suc, ◌+◌, ◌<◌, ◌≤◌, ◌==◌, cond, nat_lt, Bool, true, false, List, [], ◌∷◌, ◌++◌, length, map, filter, flat_map, take, get_or, set, Option, Some, None, refl, sym, ◌∙◌, ap, ap₂, arith, eq-eqb, eqb-true, true≢false, append-nil, length-set, length-take, get_or-set_other}
+use Rattle.std.proofs.Common.{◌≡◌, ◌≢◌, ℕ, ◌+◌, ◌<◌, ◌≤◌, ◌==◌, cond, nat_lt, Bool, true, false, List, [], ◌∷◌, ◌++◌, length, map, filter, flat_map, take, get_or, set, Option, Some, None, refl, sym, ◌∙◌, ap, arith, eq-eqb, eqb-true, true≢false, append-nil, length-set, length-take, get_or-set_other}
 use Rattle.std.specs.List.{range_with_len}
 use Rattle.std.specs.Option.{option_map_or}
 use Rattle.std.proofs.lemmas.Bool.Decides.{nat_tests}

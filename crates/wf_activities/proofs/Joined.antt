@@ -1,5 +1,5 @@
 -- Items as they are kept: what was started, beside the bits that say what is closed.
-use Rattle.std.proofs.Common.{◌≡◌, ℕ, zero, suc, ◌-◌, ◌<◌, ◌≤◌, Bool, true, false, List, [], ◌∷◌, ◌++◌, length, map, replicate, take, drop, get_or, set, Option, Some, None, refl, sym, ◌∙◌, ap, ap₂, arith, true≢false, length-append}
+use Rattle.std.proofs.Common.{◌≡◌, ℕ, zero, suc, ◌-◌, ◌<◌, ◌≤◌, cond, Bool, true, false, List, [], ◌∷◌, ◌++◌, length, map, replicate, take, drop, get_or, set, Option, Some, None, Result, Ok, is_ok, refl, sym, ◌∙◌, ap, ap₂, arith, true≢false, length-append}
 use Rattle.std.specs.List.{slice_get, zip}
 use Rattle.std.proofs.lemmas.List.{map-append, drop_at, take_all}
 use Rattle.std.proofs.lemmas.Simd.{map-map}
@@ -105,3 +105,7 @@ pub new_part : (ss fs ts : List (ActId × ℕ)) (n : ℕ) → n ≡ length ss �
 new_part ss fs ts n e h =
     let behind : drop n ts ≡ fs = ap (drop n) h ∙ drop_at ss fs n (sym e) in
     ap (take (length ts - n)) behind ∙ take_all (length ts - n) fs (omega (arith, e, ap length h, length-append ss fs))
+
+-- a push that answered Ok
+pub ok_pushed : {T E X : Type 0} (r : Result T E) (x : T) (new more old : List X) → r ≡ Ok x → new ≡ cond (is_ok r) more old → new ≡ more
+ok_pushed {T} {E} r x new more old e h = h ∙ ap (λ (q : Result T E). cond (is_ok q) more old) e

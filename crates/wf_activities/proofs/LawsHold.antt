@@ -1,5 +1,5 @@
 -- The laws, of all lists of items.
-use Rattle.std.proofs.Common.{◌≡◌, ℕ, zero, suc, ◌+◌, ◌≤◌, ◌==◌, ◌&&◌, ◌||◌, ◌++◌, not, cond, Bool, true, false, List, [], ◌∷◌, Option, Some, None, length, map, filter, refl, sym, ◌∙◌, ap, ap₂, arith, true≢false, eq-eqb, eqb-true}
+use Rattle.std.proofs.Common.{◌≡◌, ℕ, zero, suc, ◌+◌, ◌≤◌, ◌==◌, ◌&&◌, ◌++◌, not, cond, Bool, true, false, List, [], ◌∷◌, Option, Some, None, length, map, filter, refl, sym, ◌∙◌, ap, ap₂, arith, true≢false, eq-eqb, eqb-true}
 use Rattle.std.specs.List.{slice_get}
 use Rattle.std.specs.Option.{option_map, option_map_or}
 use Rattle.std.proofs.lemmas.Bool.Decides.{nat_tests}
@@ -11,9 +11,9 @@ use Rattle.wf_model.specs.declared.update.StartAt.{StartAt}
 use Rattle.wf_model.specs.Seen.{val_sort}
 use Rattle.wf_model.specs.Sorts.{alike}
 use Rattle.wf_semantics.specs.Items.{Item, new_item, one, item_at, open_count, close}
-use Rattle.wf_semantics.specs.Admission.{is_closed, are_values, may_be_admitted}
-use Rattle.wf_activities.specs.Completing.{are_wanted, may_complete}
-use Rattle.wf_activities.specs.Laws.{ClosesOne, closed_item, KeepsNumbers, ClosedStaysClosed, CountsOpenItems, HaveSorts, CompletesByAdmission, GrowsByStep}
+use Rattle.wf_semantics.specs.Admission.{is_closed, are_values}
+use Rattle.wf_activities.specs.Completing.{are_wanted}
+use Rattle.wf_activities.specs.Laws.{ClosesOne, closed_item, KeepsNumbers, ClosedStaysClosed, CountsOpenItems, HaveSorts, GrowsByStep}
 use Rattle.wf_activities.specs.UnitItems.{is_listed}
 use Rattle.wf_semantics.specs.Run.{is_at}
 

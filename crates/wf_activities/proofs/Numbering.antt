@@ -1,14 +1,15 @@
 -- The numbers of what a step starts, one start after another.
-use Rattle.std.proofs.Common.{◌≡◌, ℕ, zero, suc, ◌+◌, ◌<◌, ◌≤◌, ◌==◌, cond, Bool, true, false, List, [], ◌∷◌, ◌++◌, length, map, drop, get_or, set, Option, Some, None, refl, sym, ◌∙◌, ap, ap₂, arith, eq-eqb, eqb-true, true≢false, get_or-set_other, drop-cons, add-one, append_assoc, append-nil}
+use Rattle.std.proofs.Common.{◌≡◌, ℕ, zero, suc, ◌+◌, ◌<◌, ◌≤◌, ◌==◌, cond, Bool, true, false, List, [], ◌∷◌, ◌++◌, length, map, filter, take, drop, get_or, set, Option, Some, refl, sym, ◌∙◌, ap, ap₂, arith, eq-eqb, eqb-true, true≢false, get_or-set_other, drop-cons, add-one, append_assoc, append-nil}
 use Rattle.std.specs.List.{slice_get}
 use Rattle.std.specs.Option.{option_map, option_map_or}
 use Rattle.std.proofs.lemmas.List.{drop_all}
+use Rattle.std.proofs.lemmas.List.Filters.{length-filter_more}
 use Rattle.std.proofs.lemmas.Grind.{get_or-set_at}
 use Rattle.wf_model.specs.declared.ids.ActId.{ActId}
 use Rattle.wf_model.specs.declared.chart.Activity.{Activity}
 use Rattle.wf_model.specs.declared.chart.Chart.{Chart}
 use Rattle.wf_model.specs.declared.update.StartAt.{StartAt}
-use Rattle.wf_semantics.specs.Run.{act_unit, numbered}
+use Rattle.wf_semantics.specs.Run.{act_unit, is_at, numbered}
 use Rattle.wf_semantics.specs.Admission.{is_act_at}
 use Rattle.wf_activities.specs.UnitItems.{UnitItems}
 use Rattle.wf_activities.specs.Stock.{items_in}
@@ -40,6 +41,15 @@ length_at (x ∷ xs) (suc u) = length_at xs u
 pub cond_few : (b : Bool) (n : ℕ) → cond b (n + 1) n ≤ n + 1
 cond_few true n = omega arith
 cond_few false n = omega arith
+
+-- one start more is counted at its unit
+pub counted_starts : (chart : Chart) (starts : List StartAt) (i : ℕ) (d : StartAt) (u was now first : ℕ) → i < length starts → now ≡ cond (is_act_at chart u (get_or starts i d).act.0) (was + 1) was
+    → was ≡ first + length (filter (is_at chart u) (take i starts)) → now ≡ first + length (filter (is_at chart u) (take (i + 1) starts))
+counted_starts chart starts i d u was now first lt counted before = go (is_act_at chart u (get_or starts i d).act.0) counted (length-filter_more (is_at chart u) starts i d lt)
+  where
+    go : (b : Bool) → now ≡ cond b (was + 1) was → length (filter (is_at chart u) (take (i + 1) starts)) ≡ length (filter (is_at chart u) (take i starts)) + cond b 1 0 → now ≡ first + length (filter (is_at chart u) (take (i + 1) starts))
+    go true e long = omega arith
+    go false e long = omega arith
 
 -- one start has its number
 pub numbered_step : (chart : Chart) (starts : List StartAt) (i : ℕ) (d : StartAt) (counts after : List ℕ) (numbers total : List (ActId × ℕ)) (number : ℕ) → i < length starts

@@ -1,8 +1,6 @@
 -- Lists that have an entry for each number below n: `map f (range_with_len 0 n)`.
-use Rattle.std.proofs.Common.{◌≡◌, ℕ, zero, suc, ◌+◌, ◌<◌, cond, Bool, true, false, List, [], ◌∷◌, ◌++◌, length, map, filter, get_or, replicate, refl, sym, ◌∙◌, ap, arith, length-append}
+use Rattle.std.proofs.Common.{◌≡◌, ℕ, zero, suc, ◌+◌, ◌<◌, List, [], ◌∷◌, ◌++◌, length, map, get_or, replicate, refl, sym, ◌∙◌, ap, arith}
 use Rattle.std.specs.List.{range_with_len}
-use Rattle.std.proofs.lemmas.List.{map-append}
-use Rattle.std.proofs.lemmas.List.Elements.{filter-append}
 use Rattle.std.proofs.lemmas.List.FromFn.{map-range_with_len_more, get_or-map-range_with_len, length-map-range_with_len}
 
 -- one entry more
@@ -35,26 +33,6 @@ row_made f d n xs e h =
   where
     same : (i : ℕ) → i ≡ 0 + i
     same i = omega arith
-
-range_more : (i : ℕ) → range_with_len 0 (i + 1) ≡ range_with_len 0 i ++ i ∷ []
-range_more i =
-    sym (map_same (range_with_len 0 (i + 1))) ∙ map-range_with_len_more (λ x. x) 0 i i (omega arith) ∙ ap (λ l. l ++ i ∷ []) (map_same (range_with_len 0 i))
-  where
-    map_same : (xs : List ℕ) → map (λ x. x) xs ≡ xs
-    map_same [] = refl
-    map_same (x ∷ xs) = ap (λ (l : List ℕ). x ∷ l) (map_same xs)
-
--- one number more that may pass
-pub filter_more : {A : Type 0} (f : ℕ → A) (p : ℕ → Bool) (i : ℕ) → map f (filter p (range_with_len 0 (i + 1))) ≡ map f (filter p (range_with_len 0 i)) ++ cond (p i) (f i ∷ []) []
-filter_more {A} f p i =
-    ap (λ (l : List ℕ). map f (filter p l)) (range_more i)
-    ∙ ap (map f) (filter-append p (range_with_len 0 i) (i ∷ []))
-    ∙ map_more (filter p (range_with_len 0 i)) (p i)
-  where
-    map_more : (xs : List ℕ) (b : Bool) → map f (xs ++ cond b (i ∷ []) []) ≡ map f xs ++ cond b (f i ∷ []) []
-    map_more [] true = refl
-    map_more [] false = refl
-    map_more (x ∷ xs) b = ap (λ (l : List A). f x ∷ l) (map_more xs b)
 
 -- one more of the same
 pub replicate_more : {A : Type 0} (x : A) (n : ℕ) → replicate n x ++ x ∷ [] ≡ replicate (n + 1) x

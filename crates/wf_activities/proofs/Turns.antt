@@ -13,7 +13,7 @@ use Rattle.wf_model.specs.declared.chart.Chart.{Chart}
 use Rattle.wf_semantics.specs.Items.{Item, Completion, one, item_at, open_count, close, close_all, done_count}
 use Rattle.wf_semantics.specs.Run.{completions_of, completions_at}
 use Rattle.wf_semantics.specs.Admission.{is_of, is_closed, is_act_at, completes, is_pending, are_outputs_of, may_be_admitted, may_come_after, may_come}
-use Rattle.wf_model.proofs.Bools.{and_both, or_cases}
+use Rattle.wf_model.proofs.Bools.{and_both}
 use Rattle.wf_activities.specs.UnitItems.{is_open}
 use Rattle.wf_activities.specs.Completed.{InTurn, CompleteInTurn}
 use Rattle.wf_activities.proofs.Counting.{count_close}

@@ -1,4 +1,4 @@
--- What entries complete.
+-- Inner. For each activity, whether entries complete an item of it.
 use Rattle.std.specs.Prelude.{ℕ, ◌≡◌, true, List, [], ◌∷◌, Option, Some, None, if◌then◌else◌}
 use Rattle.std.specs.Option.{option_map_or}
 use Rattle.wf_model.specs.declared.ids.ActId.{ActId}

@@ -1,15 +1,18 @@
--- Which completions of a unit's items are refused.
+-- Inner. Which completions of a unit's items are refused.
 use Rattle.std.specs.Prelude.{ℕ, ◌==◌, ◌&&◌, not, Bool, true, false, List, [], ◌∷◌, Result, Ok, Err, if◌then◌else◌}
 use Rattle.wf_model.specs.declared.ids.ActId.{ActId}
 use Rattle.wf_model.specs.declared.ids.VarId.{VarId}
 use Rattle.wf_model.specs.declared.value.Sort.{Sort}
+use Rattle.wf_model.specs.declared.outer.Entry.{Entry}
+use Rattle.wf_model.specs.declared.outer.Outer.{Outer}
+use Rattle.wf_model.specs.declared.outer.Outer.TheVariants.{Happen, Complete}
 use Rattle.wf_model.specs.declared.outer.Output.{Output}
 use Rattle.wf_model.specs.declared.outer.OuterFault.{OuterFault}
 use Rattle.wf_model.specs.declared.outer.OuterFault.TheVariants.{NoItem, AlreadyDone, WrongOutput}
 use Rattle.wf_model.specs.Seen.{val_sort}
 use Rattle.wf_model.specs.Sorts.{alike}
 use Rattle.wf_semantics.specs.Items.{Item, item_at}
-use Rattle.wf_semantics.specs.Admission.{is_of, is_closed}
+use Rattle.wf_semantics.specs.Admission.{is_of, is_closed, is_pending}
 
 -- a value of the wanted variable, of its sort
 abbrev pub is_wanted : VarId × Sort → Output → Bool
@@ -29,6 +32,11 @@ may_complete items n a outputs wanted =
     else if is_closed (item_at items n) then Err AlreadyDone
     else if not (are_wanted wanted outputs) then Err WrongOutput
     else Ok tt
+
+-- one of these entries completes the item that an outer at unit u completes
+abbrev pub completes_again : List Entry → ℕ → Outer → Bool
+completes_again entries u (Happen e) = false
+completes_again entries u (Complete n a outputs) = is_pending entries u n
 
 -- an item that is pending counts as closed
 abbrev pub unless_pending : Result (Unit {0}) OuterFault → Bool → Result (Unit {0}) OuterFault

@@ -1,5 +1,5 @@
--- Laws of items: how they read by number, what is counted, and the admission rule.
-use Rattle.std.specs.Prelude.{ℕ, ◌≡◌, ◌==◌, ◌&&◌, ◌++◌, ◌≤◌, not, true, false, List, [], ◌∷◌, Some, length, map, filter, slice_get, if◌then◌else◌}
+-- Of the laws. How items read by number, what is counted, and the admission rule.
+use Rattle.std.specs.Prelude.{ℕ, ◌≡◌, ◌==◌, ◌&&◌, ◌++◌, ◌≤◌, not, true, List, [], ◌∷◌, Some, length, map, filter, slice_get, if◌then◌else◌}
 use Rattle.std.specs.Option.{option_map}
 use Rattle.wf_model.specs.declared.ids.ActId.{ActId}
 use Rattle.wf_model.specs.declared.ids.VarId.{VarId}

@@ -1,17 +1,14 @@
 -- The items of all units of a chart, with what is worked out once for the chart.
-use Rattle.std.specs.Prelude.{◌≡◌, ◌++◌, ℕ, List, [], Option, length, map, filter, slice_index_or}
-use Rattle.std.specs.List.{filter_map, range_with_len}
+use Rattle.std.specs.Prelude.{◌≡◌, ◌++◌, ℕ, List, [], Option, length, map, filter, slice_index, slice_index_or}
+use Rattle.std.specs.List.{filter_map}
 use Rattle.std.specs.Option.{option_map}
-use Rattle.wf_model.specs.declared.ids.ActId.{ActId}
 use Rattle.wf_model.specs.declared.ids.VarId.{VarId}
 use Rattle.wf_model.specs.declared.value.Sort.{Sort}
 use Rattle.wf_model.specs.declared.chart.Chart.{Chart}
 use Rattle.wf_model.specs.Sorts.{var_sort}
-use Rattle.wf_model.specs.Ids.{act_id}
 use Rattle.wf_semantics.specs.Items.{Item}
 use Rattle.wf_model.specs.declared.update.StartAt.{StartAt}
 use Rattle.wf_semantics.specs.Run.{is_at}
-use Rattle.wf_semantics.specs.Admission.{is_act_at}
 use Rattle.wf_activities.specs.UnitItems.{UnitItems}
 
 pub record Stock : Type 0 where
@@ -19,8 +16,6 @@ pub record Stock : Type 0 where
   pub items : List (List Item)
   -- by unit: the step of each item's start
   pub steps : List (List ℕ)
-  -- by unit: its activities
-  pub acts : List (List ActId)
   -- by activity: the variables that a completion gives, each with its sort
   pub wanted : List (List (VarId × Sort))
 
@@ -39,9 +34,9 @@ items_in units u = slice_index_or (map (λ i. i.items) units) u []
 abbrev pub steps_in : List UnitItems → ℕ → List ℕ
 steps_in units u = slice_index_or (map (λ i. i.steps) units) u []
 
--- the activities at unit u, ascending
-abbrev pub acts_at : Chart → ℕ → List ActId
-acts_at chart u = map act_id (filter (is_act_at chart u) (range_with_len 0 (length chart.acts)))
+-- how many items more of unit u take no memory
+abbrev pub room_in : List UnitItems → ℕ → ℕ
+room_in units u = slice_index (map (λ i. i.room) units) u
 
 -- at each unit the items of these starts, which stand behind those before, were started in this step
 abbrev pub AreStarted : Chart → ℕ → List StartAt → (before after : Stock) → Type 0
@@ -55,16 +50,11 @@ with_sort chart x = option_map (λ sort. (x, sort)) (var_sort chart x.0)
 abbrev pub with_sorts : Chart → List VarId → List (VarId × Sort)
 with_sorts chart outputs = filter_map (with_sort chart) outputs
 
--- by unit: its activities
-unfoldable pub acts_of : Chart → List (List ActId)
-acts_of chart = map (acts_at chart) (range_with_len 0 (length chart.units))
-
 -- by activity: the variables that a completion gives, each with its sort
 unfoldable pub wanted_of : Chart → List (List (VarId × Sort))
 wanted_of chart = map (λ act. with_sorts chart act.outputs) chart.acts
 
--- there are items for each unit of the chart, and the tables are the chart's
+-- there are items for each unit of the chart, and the table is the chart's
 pub record AreOf (chart : Chart) (stock : Stock) : Type 0 where
   pub units : length stock.items ≡ length chart.units
-  pub acts : stock.acts ≡ acts_of chart
   pub wanted : stock.wanted ≡ wanted_of chart

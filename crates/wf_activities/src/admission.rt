@@ -1,10 +1,10 @@
 //! The admission rule, part by part.
 ghost use Rattle.std.specs.Prelude.{◌≡◌, Ok, Err, if◌then◌else◌};
-ghost use Rattle.wf_semantics.specs.Admission.{is_event_at, is_act_at, completes, is_pending};
+ghost use Rattle.wf_semantics.specs.Admission.{is_event_at, is_act_at};
 ghost use Rattle.wf_activities.specs.Completing.{unless_pending};
 ghost use Rattle.wf_model.specs.declared.outer.OuterFault.TheVariants.{WrongUnit};
 
-use wf_model::{ActId, Chart, Entry, EventId, Outer, OuterFault, UnitId};
+use wf_model::{ActId, Chart, EventId, OuterFault, UnitId};
 
 /// Whether an event is at a unit.
 pub fn is_event_at(chart: &Chart, unit: UnitId, event: EventId) -> bool
@@ -38,24 +38,6 @@ pub fn is_act_at(chart: &Chart, unit: UnitId, act: ActId) -> bool
         Some(activity) => activity.unit.0 == unit.0,
         None => false,
     }
-}
-
-fn completes(outer: &Outer, item: u32) -> bool
-    ensures { result ≡ completes item outer.now }
-{
-    match outer {
-        Outer::Happen(_) => false,
-        Outer::Complete { item: other, .. } => *other == item,
-    }
-}
-
-/// Whether one of these entries completes an item of a unit. Grows with the entries.
-pub fn is_pending(pending: &[Entry], unit: UnitId, item: u32) -> bool
-    ensures { result ≡ is_pending pending.now unit.0 item }
-{
-    pending
-        .iter()
-        .any(|x| x.unit.0 == unit.0 && completes(&x.outer, item))
 }
 
 /// The answer to a completion, from the answer of its item and from whether that is pending: a pending item counts as closed.

@@ -1,10 +1,11 @@
 //! The items of all units of a chart.
-ghost use Rattle.std.specs.Prelude.{◌≡◌, ℕ, ◌+◌, ◌++◌, ◌<◌, ◌^◌, [], length, map, filter, IsTrue, IfOk, OnOk, OnErr};
+ghost use Rattle.std.specs.Prelude.{List as Listed, ◌≡◌, ℕ, ◌+◌, ◌++◌, ◌<◌, ◌^◌, [], length, map, filter, IsTrue, IfOk, OnOk, OnErr};
 ghost use Rattle.std.specs.List.{range_with_len};
 ghost use Rattle.wf_model.specs.Accepted.{IsAccepted};
 ghost use Rattle.wf_model.specs.declared.outer.Outer.TheVariants.{Complete};
 ghost use Rattle.wf_semantics.specs.Run.{items_closed, open_now, new_items, numbered};
-ghost use Rattle.wf_semantics.specs.Admission.{may_be_admitted, may_come};
+ghost use Rattle.wf_semantics.specs.Admission.{is_pending, may_be_admitted, may_come};
+ghost use Rattle.wf_activities.specs.Completing.{completes_again};
 ghost use Rattle.wf_activities.specs.Stock.{items_at, steps_at, AreOf, AreStarted};
 
 use crate::{Items, admission, completions, growing, numbers, tables};
@@ -15,17 +16,15 @@ use wf_model::{
     VarId,
 };
 
-/// The items of all units of one chart, and what is worked out once for it: the activities of each unit, and what a completion
-/// of each activity gives.
+/// The items of all units of one chart, and what is worked out once for it: what a completion of each activity gives.
 #[derive(Drop)]
 pub struct AllItems {
     units: Vec<Items>,
-    acts: List<List<ActId>>,
     wanted: List<List<(VarId, Sort)>>,
 }
 
 impl Model for AllItems {
-    ghost use Rattle.std.specs.Prelude.{map};
+    ghost use Rattle.std.specs.Prelude.{List as Listed, map};
     ghost use Rattle.wf_activities.specs.Stock.{Stock};
 
     ghost Value = { Stock };
@@ -33,14 +32,13 @@ impl Model for AllItems {
     ghost view = { λ a. record {
       items = map (λ i. i.items) a.units.items;
       steps = map (λ i. i.steps) a.units.items;
-      acts = a.acts;
       wanted = a.wanted;
     } };
 }
 
 impl AllItems {
-    /// No item yet, at any unit of the chart. Works out the tables of the chart. Grows with the units times the activities, and
-    /// with the outputs.
+    /// No item yet, at any unit of the chart. Works out the table of the chart. Grows with the units, the activities and
+    /// their outputs.
     pub fn of(alloc: Global, checked: &Checked) -> Result<AllItems, NoMemory>
         ensures items { IfOk result (λ all. (u : ℕ) → items_at all u ≡ []) }
         ensures steps { IfOk result (λ all. (u : ℕ) → steps_at all u ≡ []) }
@@ -48,32 +46,27 @@ impl AllItems {
     {
         let chart = checked.chart();
         let units = tables::no_items(alloc, chart)?;
-        let acts = tables::acts(alloc, chart)?;
         let wanted = tables::wanted(alloc, chart)?;
-        Ok(AllItems {
-            units,
-            acts,
-            wanted,
-        })
+        Ok(AllItems { units, wanted })
     }
 
-    /// Whether a unit may admit an outer where these entries are pending, or why not. Grows with the pending entries and the
-    /// outputs. Takes no memory.
+    /// Whether a unit may admit an outer, or why not, where `pending` tells whether a pending entry completes the same item.
+    /// Grows with the outputs. Takes no memory.
     pub fn may_admit(
         &self,
         chart: &Chart,
-        pending: &[Entry],
         unit: UnitId,
         outer: &Outer,
+        pending: bool,
     ) -> Result<(), OuterFault>
         requires accepted { IsAccepted chart.now }
         requires of { AreOf chart.now self.now }
-        ensures { result ≡ may_be_admitted chart.now (items_at self.now) pending.now unit.0 outer.now }
+        ensures { (entries : Listed Entry) → completes_again entries unit.0 outer.now ≡ pending → result ≡ may_be_admitted chart.now (items_at self.now) entries unit.0 outer.now }
     {
         match outer {
             Outer::Happen(event) => admission::admits_event(chart, unit, *event),
             Outer::Complete { item, act, outputs } => {
-                self.may_complete(chart, pending, unit, *item, *act, outputs.as_slice())
+                self.may_complete(chart, unit, *item, *act, outputs.as_slice(), pending)
             }
         }
     }
@@ -95,8 +88,7 @@ impl AllItems {
     }
 
     /// Closes the items that the entries complete, adds the starts as items of this step, and gives each start with the number
-    /// of its item. Grows with the entries, and with the units times the starts times a unit's activities. After `NoMemory` all
-    /// is as before.
+    /// of its item. Grows with the entries, the units and the starts. After `NoMemory` all is as before.
     pub fn take_step(
         &mut self,
         alloc: Global,
@@ -116,25 +108,25 @@ impl AllItems {
         ensures err { OnErr result (self.new ≡ self.old) }
     {
         let numbers = numbers::numbered(alloc, chart, self.units.as_slice(), starts)?;
-        growing::reserve(&mut self.units, starts.len() as u32)?;
+        growing::reserve(&mut self.units, numbers.lengths.as_slice())?;
         completions::close_completed(&mut self.units, entries);
-        growing::grow(&mut self.units, self.acts.as_slice(), step, starts);
-        Ok(numbers)
+        growing::grow(&mut self.units, chart, step, starts);
+        Ok(numbers.starts)
     }
 
-    // Whether a unit may admit a completion.
+    // Whether a unit may admit a completion, or why not, where `pending` tells whether a pending entry completes the same item.
     fn may_complete(
         &self,
         chart: &Chart,
-        pending: &[Entry],
         unit: UnitId,
         item: u32,
         act: ActId,
         outputs: &[Output],
+        pending: bool,
     ) -> Result<(), OuterFault>
         requires accepted { IsAccepted chart.now }
         requires of { AreOf chart.now self.now }
-        ensures { result ≡ may_be_admitted chart.now (items_at self.now) pending.now unit.0 (Complete item act outputs.now) }
+        ensures { (entries : Listed Entry) → is_pending entries unit.0 item ≡ pending → result ≡ may_be_admitted chart.now (items_at self.now) entries unit.0 (Complete item act outputs.now) }
     {
         if !admission::is_act_at(chart, unit, act) {
             return Err(OuterFault::WrongUnit);
@@ -142,6 +134,6 @@ impl AllItems {
         let items = &self.units[unit.0 as usize];
         let wanted = &self.wanted.as_slice()[act.0 as usize];
         let answer = items.may_complete(item, act, outputs, wanted.as_slice());
-        admission::after(answer, admission::is_pending(pending, unit, item))
+        admission::after(answer, pending)
     }
 }

@@ -38,11 +38,13 @@ pub fn widen(counts: &mut Vec<u32>, acts: &[ActId], starts: &[StartAt]) -> Resul
     Ok(())
 }
 
-/// Makes the table reach to all activities that a chart may have. What it counts stays, with memory and without.
+/// Makes the table reach to all activities that a chart may have. What it counts stays, with memory and without. Takes no
+/// memory where it reaches.
 pub fn reach_all(counts: &mut Vec<u32>) -> Result<(), NoMemory>
     ensures same { (a : ℕ) → slice_index counts.new.items a ≡ slice_index counts.old.items a }
     ensures longer { length counts.old.items ≤ length counts.new.items }
     ensures wide { OnOk result (max_acts ≤ length counts.new.items) }
+    ensures ready { max_acts ≤ length counts.old.items → IsOk result }
 {
     reach(counts, ActId(MAX_ACTS as u32 - 1))
 }

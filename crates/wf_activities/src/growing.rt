@@ -1,36 +1,53 @@
 //! The starts of a step, at all units.
-ghost use Rattle.std.specs.Prelude.{◌≡◌, ℕ, ◌+◌, ◌<◌, ◌≤◌, ◌^◌, ◌++◌, [], length, map, slice_index_or, All, OnOk};
-ghost use Rattle.wf_model.specs.Limits.{max_acts};
-ghost use Rattle.wf_semantics.specs.Items.{new_item};
-ghost use Rattle.wf_activities.specs.UnitItems.{listed};
-ghost use Rattle.wf_activities.specs.Stock.{items_in, steps_in};
+ghost use Rattle.std.specs.Prelude.{◌≡◌, ℕ, ◌+◌, ◌<◌, ◌≤◌, ◌^◌, ◌++◌, [], ◌∷◌, length, map, filter, slice_index, OnOk};
+ghost use Rattle.wf_model.specs.Accepted.{IsAccepted};
+ghost use Rattle.wf_semantics.specs.Run.{is_at, new_items};
+ghost use Rattle.wf_activities.specs.Stock.{items_in, steps_in, room_in};
 
 use crate::Items;
-use wf_model::{ActId, List, NoMemory, StartAt};
+use wf_model::{Chart, NoMemory, StartAt};
 
-/// Makes room for so many items more at each unit. After `NoMemory` the items are as before.
-pub fn reserve(units: &mut [Items], more: u32) -> Result<(), NoMemory>
+/// Makes room at each unit, up to so many items of it, and no more. Grows with the units. After `NoMemory` the items are as
+/// before.
+pub fn reserve(units: &mut [Items], lengths: &[u32]) -> Result<(), NoMemory>
+    requires long { length lengths.now ≡ length units.old }
+    requires more { (u : ℕ) → length (items_in units.old u) ≤ slice_index lengths.now u }
     ensures items { map (λ i. i.items) units.new ≡ map (λ i. i.items) units.old }
     ensures steps { map (λ i. i.steps) units.new ≡ map (λ i. i.steps) units.old }
-    ensures room { OnOk result (All (λ i. more ≤ i.room) units.new) }
+    ensures room { OnOk result ((u : ℕ) → u < length units.new → slice_index lengths.now u ≤ length (items_in units.new u) + room_in units.new u) }
 {
-    for unit in units.iter_mut() {
-        unit.reserve(more)?;
+    for (u, length) in lengths.iter().enumerate() {
+        let more = *length - units[u].len() as u32;
+        units[u].reserve(more)?;
     }
     Ok(())
 }
 
-/// Adds at each unit the starts of its activities, as items of this step. There is room for all of them. Grows with the units
-/// times the starts times the activities of a unit.
-pub fn grow(units: &mut [Items], acts: &[List<ActId>], step: u32, starts: &[StartAt])
-    requires tables { length acts.now ≡ length units.old }
-    requires small { All (λ ids. All (λ a. a.0 < max_acts) ids) acts.now }
-    requires room { All (λ i. length starts.now ≤ i.room) units.old }
-    requires few { (u : ℕ) → length (items_in units.old u) + length starts.now < 2 ^ 32 }
-    ensures items { (u : ℕ) → u < length units.old → items_in units.new u ≡ items_in units.old u ++ map (λ s. new_item s.act) (listed (slice_index_or acts.now u []) starts.now) }
-    ensures steps { (u : ℕ) → u < length units.old → steps_in units.new u ≡ steps_in units.old u ++ map (λ s. step) (listed (slice_index_or acts.now u []) starts.now) }
+// Adds a start as an item of this step, at the unit of its activity. One of an activity that the chart doesn't have adds none.
+fn grow_one(units: &mut [Items], chart: &Chart, step: u32, start: &StartAt)
+    requires accepted { IsAccepted chart.now }
+    requires units { length units.old ≡ length chart.now.units }
+    requires room { (u : ℕ) → u < length units.old → length (filter (is_at chart.now u) (start.now ∷ [])) ≤ room_in units.old u }
+    requires few { (u : ℕ) → length (items_in units.old u) + 1 < 2 ^ 32 }
+    ensures items { (u : ℕ) → items_in units.new u ≡ items_in units.old u ++ new_items chart.now u (start.now ∷ []) }
+    ensures steps { (u : ℕ) → steps_in units.new u ≡ steps_in units.old u ++ map (λ s. step) (filter (is_at chart.now u) (start.now ∷ [])) }
+    ensures room { (u : ℕ) → room_in units.old u ≤ room_in units.new u + length (filter (is_at chart.now u) (start.now ∷ [])) }
 {
-    for u in 0..units.len() {
-        let _ = units[u].grow(acts[u].as_slice(), step, starts);
+    if let Some(activity) = chart.acts.get(start.act.0 as usize) {
+        units[activity.unit.0 as usize].push(start.act, step);
+    }
+}
+
+/// Adds each start as an item of this step, at the unit of its activity. There is room for all of them. Grows with the starts.
+pub fn grow(units: &mut [Items], chart: &Chart, step: u32, starts: &[StartAt])
+    requires accepted { IsAccepted chart.now }
+    requires units { length units.old ≡ length chart.now.units }
+    requires room { (u : ℕ) → u < length units.old → length (filter (is_at chart.now u) starts.now) ≤ room_in units.old u }
+    requires few { (u : ℕ) → length (items_in units.old u) + length starts.now < 2 ^ 32 }
+    ensures items { (u : ℕ) → items_in units.new u ≡ items_in units.old u ++ new_items chart.now u starts.now }
+    ensures steps { (u : ℕ) → steps_in units.new u ≡ steps_in units.old u ++ map (λ s. step) (filter (is_at chart.now u) starts.now) }
+{
+    for start in starts {
+        grow_one(units, chart, step, start);
     }
 }

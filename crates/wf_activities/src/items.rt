@@ -1,5 +1,5 @@
 //! The items of one unit.
-ghost use Rattle.std.specs.Prelude.{◌≡◌, ◌+◌, ◌++◌, ◌<◌, ◌≤◌, ◌^◌, ◌↔◌, [], length, map, All, IsTrue, IsOk, IfOk, OnOk, OnErr};
+ghost use Rattle.std.specs.Prelude.{◌≡◌, ◌+◌, ◌++◌, ◌<◌, ◌≤◌, ◌^◌, ◌↔◌, [], ◌∷◌, length, map, All, IsTrue, IsOk, IfOk, OnOk, OnErr};
 ghost use Rattle.std.specs.Option.{option_map};
 ghost use Rattle.wf_model.specs.Limits.{max_acts};
 ghost use Rattle.wf_semantics.specs.Items.{new_item, item_at, open_count, close};
@@ -54,12 +54,13 @@ impl Items {
 
     /// Makes room: the next `grow` that adds at most so many items finds memory. The memory at least doubles where it grows, so
     /// that many calls for one item more cost as little as one for all. After `NoMemory` the items are as before. The room that
-    /// there was stays.
+    /// there was stays. With that room already, for one item or more, it answers Ok.
     pub fn reserve(&mut self, more: u32) -> Result<(), NoMemory>
         ensures unit { self.new.unit ≡ self.old.unit }
         ensures items { self.new.items ≡ self.old.items }
         ensures steps { self.new.steps ≡ self.old.steps }
         ensures ok { OnOk result (more ≤ self.new.room) }
+        ensures succeeds { 1 ≤ more → more ≤ self.old.room → IsOk result }
         ensures room { self.old.room ≤ self.new.room }
     {
         self.started.reserve(more as usize)?;
@@ -97,6 +98,21 @@ impl Items {
         )?;
         counts::count_all(&mut self.counts, &self.started.as_slice()[before..]);
         Ok(())
+    }
+
+    /// Adds one item, a start of this activity in this step. There is room for it. In constant time. Takes no memory.
+    pub fn push(&mut self, act: ActId, step: u32)
+        requires small { act.0 < max_acts }
+        requires room { 0 < self.old.room }
+        requires few { length self.old.items + 1 < 2 ^ 32 }
+        ensures unit { self.new.unit ≡ self.old.unit }
+        ensures items { self.new.items ≡ self.old.items ++ new_item act ∷ [] }
+        ensures steps { self.new.steps ≡ self.old.steps ++ step ∷ [] }
+        ensures room { self.old.room ≤ self.new.room + 1 }
+    {
+        self.started.push((act, step)).unwrap();
+        self.closed.push(false).unwrap();
+        self.counts[act.0 as usize] += 1;
     }
 
     /// Whether an item may be completed with these outputs, where its activity gives the wanted ones. `NoItem`: there is no

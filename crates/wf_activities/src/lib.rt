@@ -1,5 +1,12 @@
-//! Items: the starts of activities, numbered from 1 at each unit, and which of them are closed. Those of one unit, and those of all units
-//! of a chart, with the admission rule.
+//! Items: the starts of activities, numbered from 1 at each unit. `Items` has those of one unit,
+//! `AllItems` those of all units of a chart, with the admission rule.
+//!
+//! - Promises: a completion is refused exactly if the rule refuses it. A step closes what its
+//!   entries complete, and adds and numbers what it starts. The counts of open items are those that
+//!   the definition counts. After a step that runs out of memory all is as before.
+//! - Doesn't say: that it finds memory. Only `Items::grow` does, if there is room for its items.
+//! - A caller: `wf_central::CentralState` keeps the `AllItems` of its chart.
+//! - A change begins here if more is to be known of an item.
 #![tactic(auto)]
 
 mod admission;

@@ -1,8 +1,8 @@
 //! The numbers of the items that a step starts.
-ghost use Rattle.std.specs.Prelude.{◌≡◌, ℕ, ◌+◌, ◌<◌, ◌^◌, length, map, slice_index, IfOk, if◌then◌else◌};
+ghost use Rattle.std.specs.Prelude.{◌≡◌, ℕ, ◌+◌, ◌<◌, ◌^◌, length, map, filter, slice_index, IfOk, if◌then◌else◌};
 ghost use Rattle.std.specs.Option.{option_map_or};
 ghost use Rattle.wf_model.specs.Accepted.{IsAccepted};
-ghost use Rattle.wf_semantics.specs.Run.{act_unit, numbered};
+ghost use Rattle.wf_semantics.specs.Run.{act_unit, is_at, numbered};
 ghost use Rattle.wf_semantics.specs.Admission.{is_act_at};
 ghost use Rattle.wf_activities.specs.Stock.{items_in};
 
@@ -40,17 +40,26 @@ fn next_number(chart: &Chart, counts: &mut [u32], act: ActId) -> u32
     }
 }
 
-/// Each start with the number of its item. Grows with the units and the starts.
+/// The items that a step starts: each start with the number of its item, and how many items each unit has then.
+#[derive(Drop)]
+pub struct Numbers {
+    pub starts: List<(ActId, u32)>,
+    pub lengths: Vec<u32>,
+}
+
+/// Numbers the items of these starts. Grows with the units and the starts.
 pub fn numbered(
     alloc: Global,
     chart: &Chart,
     units: &[Items],
     starts: &[StartAt],
-) -> Result<List<(ActId, u32)>, NoMemory>
+) -> Result<Numbers, NoMemory>
     requires accepted { IsAccepted chart.now }
     requires units { length units.now ≡ length chart.now.units }
     requires room { (u : ℕ) → length (items_in units.now u) + length starts.now < 2 ^ 32 }
-    ensures { IfOk result (λ n. n ≡ numbered chart.now (λ u. length (items_in units.now u)) starts.now) }
+    ensures starts { IfOk result (λ n. n.starts ≡ numbered chart.now (λ u. length (items_in units.now u)) starts.now) }
+    ensures long { IfOk result (λ n. length n.lengths.items ≡ length units.now) }
+    ensures lengths { IfOk result (λ n. (u : ℕ) → slice_index n.lengths.items u ≡ length (items_in units.now u) + length (filter (is_at chart.now u) starts.now)) }
 {
     let mut counts = lengths(alloc, units)?;
     let mut numbers = List::new(alloc);
@@ -58,5 +67,8 @@ pub fn numbered(
         let number = next_number(chart, &mut counts, start.act);
         numbers.push((start.act, number))?;
     }
-    Ok(numbers)
+    Ok(Numbers {
+        starts: numbers,
+        lengths: counts,
+    })
 }

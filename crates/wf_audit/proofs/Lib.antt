@@ -1,9 +1,3 @@
-pub mod Divided
-pub mod Split
-pub mod Noted
-pub mod Spelled
-pub mod Commas
-pub mod Read
-pub mod Counted
 pub mod Variables
 pub mod Sights
+pub mod Scripts

@@ -1,5 +1,5 @@
 -- The central run, line by line.
-use Rattle.std.proofs.Common.{◌≡◌, ℕ, ◌+◌, ◌++◌, ◌∙◌, ap, List, [], ◌∷◌, ◌<◌, ◌≤◌, Err, refl, arith, length, length-append, get_or, drop, sym}
+use Rattle.std.proofs.Common.{◌≡◌, ℕ, ◌+◌, ◌++◌, ◌∙◌, ap, List, ◌∷◌, ◌<◌, ◌≤◌, Err, refl, arith, length, length-append, get_or, drop, sym}
 use Rattle.std.proofs.lemmas.List.{at_drop_more, append_assoc}
 use Rattle.wf_model.specs.declared.ids.EventId.{EventId}
 use Rattle.wf_model.specs.declared.ids.StateId.{StateId}

@@ -1,8 +1,3 @@
-pub mod Lines
-pub mod Names
-pub mod Finders
-pub mod Values
-pub mod Outers
 pub mod Script
 pub mod Replies
 pub mod CentralText

@@ -58,11 +58,14 @@ abbrev pub step_text : Chart → ℕ → StepNotes → List ℕ
 step_text chart step notes =
     codes "step " ++ decimal step ++ codes " fired" ++ fired_text notes.fired ++ codes " starts" ++ starts_text chart notes.starts
 
--- the sight of the central run: the states that are in, the variables, the events raised in the last step
+-- the steps that were taken, the states that are in, and the variables
+unfoldable pub shown_text : Chart → ℕ → List StateId → List Output → List ℕ
+shown_text chart taken states vars =
+    codes "after " ++ decimal taken ++ codes " in" ++ states_text chart states ++ codes " vars" ++ vars_text chart vars
+
+-- the sight of the central run: that, and the events raised in the last step
 abbrev pub sight_text : Chart → ℕ → List StateId → List Output → List EventId → List ℕ
-sight_text chart taken states vars raised =
-    codes "after " ++ decimal taken ++ codes " in" ++ states_text chart states ++ codes " vars" ++ vars_text chart vars ++ codes " raised"
-    ++ raised_text chart raised
+sight_text chart taken states vars raised = shown_text chart taken states vars ++ codes " raised" ++ raised_text chart raised
 
 -- the text of a reply
 unfoldable pub reply_text : Chart → Reply → List ℕ

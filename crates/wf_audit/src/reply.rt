@@ -1,5 +1,5 @@
 //! Replies, and their text.
-ghost use Rattle.std.specs.Prelude.{◌≡◌, ◌++◌, IfOk, OnOk};
+ghost use Rattle.std.specs.Prelude.{◌≡◌, ◌++◌, IfOk, OnErr, OnOk};
 ghost use Rattle.std.specs.Fmt.{signed_decimal};
 ghost use Rattle.wf_audit.specs.Replies as spec;
 
@@ -77,8 +77,7 @@ fn append_starts(text: &mut Bytes, chart: &Chart, starts: &[(ActId, u32)]) -> Re
     Ok(())
 }
 
-/// Adds the names of these states, each behind a space. Linear in what is written.
-pub fn append_states(text: &mut Bytes, chart: &Chart, states: &[StateId]) -> Result<(), NoMemory>
+fn append_states(text: &mut Bytes, chart: &Chart, states: &[StateId]) -> Result<(), NoMemory>
     ensures { OnOk result (text.new ≡ text.old ++ spec.states_text chart.now states.now) }
 {
     for state in states {
@@ -88,8 +87,7 @@ pub fn append_states(text: &mut Bytes, chart: &Chart, states: &[StateId]) -> Res
     Ok(())
 }
 
-/// Adds these variables with their values, each behind a space. Linear in what is written.
-pub fn append_vars(text: &mut Bytes, chart: &Chart, vars: &[Output]) -> Result<(), NoMemory>
+fn append_vars(text: &mut Bytes, chart: &Chart, vars: &[Output]) -> Result<(), NoMemory>
     ensures { OnOk result (text.new ≡ text.old ++ spec.vars_text chart.now vars.now) }
 {
     for variable in vars {
@@ -111,9 +109,11 @@ fn append_raised(text: &mut Bytes, chart: &Chart, raised: &[EventId]) -> Result<
     Ok(())
 }
 
-/// Adds the words for why an outer was refused.
+/// Adds the words for why an outer was refused. If memory runs out, the text is as before. In constant time but for the
+/// text's growth.
 pub fn append_fault(text: &mut Bytes, fault: OuterFault) -> Result<(), NoMemory>
-    ensures { OnOk result (text.new ≡ text.old ++ spec.fault_text fault) }
+    ensures ok { OnOk result (text.new ≡ text.old ++ spec.fault_text fault) }
+    ensures err { OnErr result (text.new ≡ text.old) }
 {
     match fault {
         OuterFault::WrongUnit => text.append(b"wrong unit"),
@@ -123,8 +123,7 @@ pub fn append_fault(text: &mut Bytes, fault: OuterFault) -> Result<(), NoMemory>
     }
 }
 
-/// Adds what the step with this number did. Linear in what is written.
-pub fn append_step(
+fn append_step(
     text: &mut Bytes,
     chart: &Chart,
     step: u32,
@@ -140,8 +139,44 @@ pub fn append_step(
     append_starts(text, chart, notes.starts.as_slice())
 }
 
-/// Adds the sight of the central run. Linear in what is written.
-pub fn append_sight(
+#[tactic(auto, unfolding(crate::specs::Replies::shown_text))]
+fn write_shown(
+    text: &mut Bytes,
+    chart: &Chart,
+    taken: u32,
+    states: &[StateId],
+    vars: &[Output],
+) -> Result<(), NoMemory>
+    ensures { OnOk result (text.new ≡ text.old ++ spec.shown_text chart.now taken states.now vars.now) }
+{
+    text.append(b"after ")?;
+    append_number(text, taken.into())?;
+    text.append(b" in")?;
+    append_states(text, chart, states)?;
+    text.append(b" vars")?;
+    append_vars(text, chart, vars)
+}
+
+/// Adds what is shown of a chart or of a unit: how many steps were taken, the states that are in, and the variables with
+/// their values. A number that the chart hasn't is written as an empty name. If memory runs out, the text is as before.
+/// Linear in what is written.
+pub fn append_shown(
+    alloc: Global,
+    text: &mut Bytes,
+    chart: &Chart,
+    taken: u32,
+    states: &[StateId],
+    vars: &[Output],
+) -> Result<(), NoMemory>
+    ensures ok { OnOk result (text.new ≡ text.old ++ spec.shown_text chart.now taken states.now vars.now) }
+    ensures err { OnErr result (text.new ≡ text.old) }
+{
+    let mut shown = List::new(alloc);
+    write_shown(&mut shown, chart, taken, states, vars)?;
+    text.append(shown.as_slice())
+}
+
+fn append_sight(
     text: &mut Bytes,
     chart: &Chart,
     taken: u32,
@@ -151,12 +186,7 @@ pub fn append_sight(
 ) -> Result<(), NoMemory>
     ensures { OnOk result (text.new ≡ text.old ++ spec.sight_text chart.now taken states.now vars.now raised.now) }
 {
-    text.append(b"after ")?;
-    append_number(text, taken.into())?;
-    text.append(b" in")?;
-    append_states(text, chart, states)?;
-    text.append(b" vars")?;
-    append_vars(text, chart, vars)?;
+    write_shown(text, chart, taken, states, vars)?;
     text.append(b" raised")?;
     append_raised(text, chart, raised)
 }

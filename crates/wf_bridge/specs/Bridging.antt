@@ -1,4 +1,4 @@
--- The counting machine's words are the histories' where its counts are theirs.
+-- Of the laws. The counting machine's words are the histories' where its counts are theirs.
 use Rattle.std.specs.Prelude.{ℕ, suc, ◌+◌, ◌≡◌, ◌<◌, ◌≤◌, Bool, List, length, map, filter}
 use Rattle.std.specs.List.{list_any, enumerate_from}
 use Rattle.wf_model.specs.declared.ids.ActId.{ActId}

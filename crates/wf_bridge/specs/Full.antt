@@ -1,4 +1,4 @@
--- The journal of a server in a play never gets full.
+-- Of the laws. The journal of a server in a play never gets full.
 use Rattle.std.specs.Prelude.{ℕ, ◌+◌, ◌<◌, ◌≤◌, List, length}
 use Rattle.std.specs.List.{sum_by, AllByRecursion}
 use Rattle.wf_model.specs.Limits.{max_name, max_lines, max_journal}

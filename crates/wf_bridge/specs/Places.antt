@@ -1,4 +1,4 @@
--- The whole merged list, and the places of a unit's admissions in it.
+-- Of the laws. The whole merged list, and the places of a unit's admissions in it.
 use Rattle.std.specs.Prelude.{ℕ, suc, ◌+◌, ◌≡◌, ◌≤◌, length, map, flat_map, take, sum}
 use Rattle.std.specs.List.{range_with_len}
 use Rattle.wf_model.specs.declared.chart.Chart.{Chart}

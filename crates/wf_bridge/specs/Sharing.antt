@@ -1,4 +1,4 @@
--- The counting machine's update is the unit's share.
+-- Of the laws. The counting machine's update is the unit's share.
 use Rattle.std.specs.Prelude.{ℕ, suc, ◌≡◌, ◌<◌, ◌≤◌, length}
 use Rattle.wf_model.specs.declared.chart.Chart.{Chart}
 use Rattle.wf_model.specs.Accepted.{IsAccepted}

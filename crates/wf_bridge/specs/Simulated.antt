@@ -1,4 +1,4 @@
--- A machine's servers are those of a world with histories and updates.
+-- Of the laws. A machine's servers are those of a world with histories and updates.
 use Rattle.std.specs.Prelude.{ℕ, ◌≡◌, ◌<◌, min, Bool, true, List, length, map, Option, Some, None, IsSome}
 use Rattle.std.specs.List.{list_all}
 use Rattle.wf_model.specs.Limits.{max_sealed}

@@ -1,5 +1,12 @@
-//! The counting machine is the histories': its admissions, sights, items, letters and merged list are those of a world of
-//! servers, for every script, and no journal of a play gets full. Laws as functions with nothing to do.
+//! The counting machine of a play and the histories of its servers are one: what it counts, shows
+//! and sends is what they hold.
+//!
+//! - Promises: the machine of every play of an accepted chart is that of a world of servers, with
+//!   its admissions, sights, items, letters and merged list. Within the limits on lines, messages
+//!   and outers no journal gets full. Each public function is a law and has nothing to do.
+//! - Doesn't say: anything of the ending of a play, or of any program.
+//! - A caller: none; no crate depends on it.
+//! - A change of the machine or of histories shows here.
 #![tactic(auto)]
 
 mod laws;

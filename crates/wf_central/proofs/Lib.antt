@@ -4,6 +4,7 @@ pub mod Passing
 pub mod Writing
 pub mod Sorts
 pub mod Sights
+pub mod Finding
 pub mod Few
 pub mod Same
 pub mod Marking

@@ -4,7 +4,7 @@ use Rattle.std.specs.List.{list_any, range_with_len}
 use Rattle.std.proofs.lemmas.List.{set_past}
 use Rattle.wf_model.specs.declared.ids.EventId.{EventId}
 use Rattle.wf_model.specs.declared.outer.Outer.{Outer}
-use Rattle.wf_model.specs.declared.outer.Outer.TheVariants.{Happen, Complete}
+use Rattle.wf_model.specs.declared.outer.Outer.TheVariants.{Happen}
 use Rattle.wf_model.specs.declared.outer.Entry.{Entry}
 use Rattle.wf_semantics.specs.Run.{is_happening}
 use Rattle.wf_model.proofs.Bools.{not_true}

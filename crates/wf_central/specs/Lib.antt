@@ -3,3 +3,4 @@ pub mod Passes
 pub mod Sight
 pub mod Made
 pub mod Standings
+pub mod Found

@@ -1,4 +1,4 @@
--- What the passes of a step start from, and what they have to make.
+-- Inner. What the passes of a step start from, and what they have to make.
 use Rattle.std.specs.Prelude.{◌≡◌, ℕ, Bool, List, map}
 use Rattle.wf_model.specs.declared.chart.Chart.{Chart}
 use Rattle.wf_model.specs.declared.outer.Entry.{Entry}

@@ -1,4 +1,4 @@
--- What a step sees, by the lists that are kept.
+-- Inner. What a step sees, by the lists that are kept.
 use Rattle.std.specs.Prelude.{ℕ, ◌==◌, Bool, List, Some, slice_get, slice_index, IsOk}
 use Rattle.std.specs.List.{list_any}
 use Rattle.wf_model.specs.declared.ids.EventId.{EventId}

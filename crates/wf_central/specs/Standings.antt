@@ -1,4 +1,4 @@
--- Where a kept run of a chart stands.
+-- Inner. Ties a run that is held in memory to where a run of the chart stands.
 use Rattle.std.specs.Prelude.{ℕ, IsTrue}
 use Rattle.wf_model.specs.declared.chart.Chart.{Chart}
 use Rattle.wf_semantics.specs.Admission.{may_come}

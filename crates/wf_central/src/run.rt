@@ -1,12 +1,14 @@
 //! A central run: outers are admitted one by one, and a step takes all that were admitted before it.
-ghost use Rattle.std.specs.Prelude.{◌≡◌, ◌<◌, ◌+◌, ◌++◌, ◌==◌, filter, IfOk, OnOk, OnErr};
+ghost use Rattle.std.specs.Prelude.{◌≡◌, ℕ, ◌<◌, ◌+◌, ◌++◌, [], ◌==◌, filter, IfOk, OnOk, OnErr};
 ghost use Rattle.wf_model.specs.Accepted.{IsAccepted};
 ghost use Rattle.wf_model.specs.Limits.{max_steps};
 ghost use Rattle.wf_semantics.specs.Standing as spec;
-ghost use Rattle.wf_central.specs.Kept.{notes_of};
+ghost use Rattle.wf_activities.specs.Stock.{steps_at};
+ghost use Rattle.wf_central.specs.Kept.{notes_of, StartInStep};
 ghost use Rattle.wf_central.specs.Standings.{standing_of, state_of, taken_by, IsRun};
 
 use crate::CentralState;
+use crate::pending::Pending;
 use std::alloc::Global;
 use wf_model::{
     Chart, Checked, Duplicate, Entry, List, NoMemory, Outer, OuterFault, StepNotes, UnitId,
@@ -16,7 +18,7 @@ use wf_model::{
 #[derive(Drop)]
 pub struct CentralRun {
     central: CentralState,
-    pending: List<Entry>,
+    pending: Pending,
 }
 
 // Appends a copy of each entry of this unit.
@@ -55,10 +57,11 @@ impl CentralRun {
             standing_of checked.now run ≡ spec.first_standing checked.now) }
         ensures of { IfOk result (λ run. IsRun checked.now run) }
         ensures taken { IfOk result (λ run. taken_by run ≡ 0) }
+        ensures steps { IfOk result (λ run. (u : ℕ) → steps_at (state_of run).items u ≡ []) }
     {
         Ok(CentralRun {
             central: CentralState::first(alloc, checked)?,
-            pending: List::new(alloc),
+            pending: Pending::new(alloc),
         })
     }
 
@@ -70,7 +73,7 @@ impl CentralRun {
     }
 
     /// Admits an outer at a unit for the next step, or answers why not, by the rule of `CentralState::may_admit`. A refusal
-    /// leaves the run as it is, and so does `NoMemory`. Grows with the pending entries and the outputs.
+    /// leaves the run as it is, and so does `NoMemory`. Grows with the outputs.
     pub fn admit(
         &mut self,
         alloc: Global,
@@ -87,10 +90,8 @@ impl CentralRun {
         ensures state { state_of self.new ≡ state_of self.old }
         ensures err { OnErr result (self.new ≡ self.old) }
     {
-        let admitted = self
-            .central
-            .may_admit(checked, self.pending.as_slice(), unit, outer);
-        match admitted {
+        let again = self.pending.completes(unit, outer);
+        match self.central.may_admit_if(checked, unit, outer, again) {
             Ok(()) => {
                 let outer = outer.copy(alloc)?;
                 self.pending.push(Entry { unit, outer })?;
@@ -109,13 +110,15 @@ impl CentralRun {
             IfOk result (λ n. n ≡ notes_of checked.now before.central (spec.next_entries checked.now before)) }
         ensures standing { OnOk result (standing_of checked.now self.new
             ≡ spec.after_step checked.now (standing_of checked.now self.old)) }
+        ensures steps { let before = standing_of checked.now self.old in
+            OnOk result (StartInStep checked.now (state_of self.old) (spec.next_entries checked.now before) (state_of self.new)) }
         ensures of { IsRun checked.now self.new }
         ensures taken { OnOk result (taken_by self.new ≡ taken_by self.old + 1) }
         ensures err { OnErr result (self.new ≡ self.old) }
     {
-        let coming = in_unit_order(alloc, checked.chart(), self.pending.as_slice())?;
+        let coming = in_unit_order(alloc, checked.chart(), self.pending.entries())?;
         let notes = self.central.step(alloc, checked, coming.as_slice())?;
-        self.pending = List::new(alloc);
+        self.pending = Pending::new(alloc);
         Ok(notes)
     }
 }

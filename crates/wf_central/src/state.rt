@@ -1,5 +1,5 @@
 //! The state of a chart.
-ghost use Rattle.std.specs.Prelude.{◌≡◌, ◌+◌, ◌<◌, Some, length, map, slice_get, IsTrue, IfOk, OnOk, OnErr};
+ghost use Rattle.std.specs.Prelude.{List as Listed, ◌≡◌, ℕ, ◌+◌, ◌<◌, [], Some, length, map, slice_get, IsTrue, IfOk, OnOk, OnErr};
 ghost use Rattle.wf_model.specs.Accepted.{IsAccepted};
 ghost use Rattle.wf_model.specs.declared.chart.Chart.{Chart as AnyChart};
 ghost use Rattle.wf_model.specs.Limits.{max_steps};
@@ -7,11 +7,14 @@ ghost use Rattle.wf_semantics.specs.Configuration.{is_in};
 ghost use Rattle.wf_semantics.specs.Run.{first_state, next_state};
 ghost use Rattle.wf_semantics.specs.Admission.{may_be_admitted, may_come};
 ghost use Rattle.wf_semantics.specs.Shown.{HasSorts};
+ghost use Rattle.wf_activities.specs.Completing.{completes_again};
+ghost use Rattle.wf_activities.specs.Stock.{steps_at};
 ghost use Rattle.wf_central.specs.Kept.{central_of, IsOf, StartInStep, notes_of};
 ghost use Rattle.wf_central.specs.Made.{MakesStep};
 
 use crate::outputs;
 use crate::passes::{self, AfterStep};
+use crate::pending::completes_again;
 use crate::snapshot::{self, StepSnapshot};
 use std::alloc::Global;
 use std::marker::Model;
@@ -58,6 +61,7 @@ impl CentralState {
     pub fn first(alloc: Global, checked: &Checked) -> Result<CentralState, NoMemory>
         ensures state { IfOk result (λ c. central_of checked.now c ≡ first_state checked.now) }
         ensures of { IfOk result (λ c. IsOf checked.now c) }
+        ensures steps { IfOk result (λ c. (u : ℕ) → steps_at c.items u ≡ []) }
     {
         let active = default_bits(alloc, checked.chart())?;
         let store = first_values(alloc, checked.chart())?;
@@ -91,15 +95,17 @@ impl CentralState {
     }
 
     /// The events that were raised in the last step, ascending. Takes no memory.
+    #[tactic(auto, unfolding(crate::specs::Kept::central_of))]
     pub fn raised(&self) -> &[EventId]
-        ensures { result.now ≡ self.now.raised }
+        ensures { (chart : AnyChart) → result.now ≡ (central_of chart self.now).raised }
     {
         self.raised.as_slice()
     }
 
     /// How many steps were taken. Takes no memory.
+    #[tactic(auto, unfolding(crate::specs::Kept::central_of))]
     pub fn taken(&self) -> u32
-        ensures { result ≡ self.now.taken }
+        ensures { (chart : AnyChart) → result ≡ (central_of chart self.now).taken }
     {
         self.taken
     }
@@ -118,13 +124,28 @@ impl CentralState {
         requires { IsOf checked.now self.now }
         ensures { result ≡ may_be_admitted checked.now (central_of checked.now self.now).items pending.now unit.0 outer.now }
     {
-        self.items.may_admit(checked.chart(), pending, unit, outer)
+        let again = completes_again(pending, unit, outer);
+        self.may_admit_if(checked, unit, outer, again)
+    }
+
+    // The same, if it is known whether a pending entry completes the same item. Grows with the outputs.
+    pub(crate) fn may_admit_if(
+        &self,
+        checked: &Checked,
+        unit: UnitId,
+        outer: &Outer,
+        again: bool,
+    ) -> Result<(), OuterFault>
+        requires { IsOf checked.now self.now }
+        ensures { (entries : Listed Entry) → completes_again entries unit.0 outer.now ≡ again → result ≡ may_be_admitted checked.now (central_of checked.now self.now).items entries unit.0 outer.now }
+    {
+        self.items.may_admit(checked.chart(), unit, outer, again)
     }
 
     /// Takes one step, in which these entries come: each of them may be admitted where those before it are pending. Grows with
     /// the states times their depth, the transitions, the nodes of the guards that are looked at and of the assigned values,
-    /// the actions that fire, the variables, the outputs, the events, the entries, the activities, and the units times
-    /// the starts times a unit's activities; not with the items. After `NoMemory` the state is as before.
+    /// the actions that fire, the variables, the outputs, the events, the entries, the activities, the units and the starts; not
+    /// with the items. After `NoMemory` the state is as before.
     pub fn step(
         &mut self,
         alloc: Global,

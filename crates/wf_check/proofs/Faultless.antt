@@ -1,5 +1,5 @@
 -- A chart has no first fault exactly where it is accepted.
-use Rattle.std.proofs.Common.{◌≡◌, ℕ, ◌&&◌, Bool, true, false, List, [], ◌∷◌, length, Some, None, is_none, unwrap_or, slice_get, refl, sym, ap, ap₂, ◌∙◌, arith}
+use Rattle.std.proofs.Common.{◌≡◌, ℕ, ◌&&◌, Bool, true, false, List, [], ◌∷◌, length, None, is_none, unwrap_or, slice_get, refl, sym, ap, ap₂, ◌∙◌, arith}
 use Rattle.std.specs.Prelude.{nat_le, nat_lt}
 use Rattle.std.specs.List.{list_all, enumerate_from}
 use Rattle.std.specs.Option.{option_map}
@@ -16,7 +16,6 @@ use Rattle.wf_model.specs.Tree.{kind, is_or, ancestors}
 use Rattle.wf_model.specs.Seen.{val_sort}
 use Rattle.wf_model.specs.Sorts.{alike}
 use Rattle.wf_model.specs.Accepted.{IsAccepted, is_accepted, is_small, is_numbered, is_named, is_shaped, is_sorted, all_of, all_numbered, nodes, is_small_action, is_small_transition, names_of, is_new, suits, has_child, spares_root, is_sorted_transition, is_sorted_action, has_sort, is_placed_event, is_known_activity, is_placed_state, is_known_transition, are_outputs}
-use Rattle.wf_check.specs.declared.fault.CheckFault.{CheckFault}
 use Rattle.wf_check.specs.Firsts.{first_from}
 use Rattle.wf_check.specs.Limited.{size_fault, has_few_actions, has_few_outputs, has_small_exprs, AreFew}
 use Rattle.wf_check.specs.Numbered.{number_fault, bad_state}

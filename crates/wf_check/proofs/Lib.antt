@@ -5,3 +5,4 @@ pub mod GoodNames
 pub mod Parts
 pub mod Preorder
 pub mod Faultless
+pub mod Memory

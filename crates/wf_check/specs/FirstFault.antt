@@ -1,5 +1,5 @@
 -- What the checker answers: the first rule that a chart breaks.
-use Rattle.std.specs.Prelude.{[], ◌∷◌, Option, Some, None, Result, Ok, Err}
+use Rattle.std.specs.Prelude.{[], ◌∷◌, Option}
 use Rattle.wf_model.specs.declared.chart.Chart.{Chart}
 use Rattle.wf_check.specs.declared.fault.CheckFault.{CheckFault}
 use Rattle.wf_check.specs.Firsts.{first_some}
@@ -12,11 +12,3 @@ use Rattle.wf_check.specs.Sorted.{sort_fault}
 -- limits, numbers, names, shape, and then sorts, outputs and transitions
 unfoldable pub first_fault : Chart → Option CheckFault
 first_fault c = first_some (size_fault c ∷ number_fault c ∷ name_fault c ∷ shape_fault c ∷ sort_fault c ∷ [])
-
-abbrev pub checked_by : Chart → Option CheckFault → Result Chart CheckFault
-checked_by chart None = Ok chart
-checked_by chart (Some fault) = Err fault
-
--- the chart, or its first fault
-unfoldable pub checked_of : Chart → Result Chart CheckFault
-checked_of chart = checked_by chart (first_fault chart)

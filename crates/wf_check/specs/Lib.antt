@@ -5,4 +5,5 @@ pub mod Naming
 pub mod Rooted
 pub mod Sorted
 pub mod FirstFault
+pub mod Judged
 pub mod Laws

@@ -4,9 +4,6 @@ use Rattle.std.specs.Option.{option_map}
 use Rattle.wf_model.specs.declared.chart.Chart.{Chart}
 use Rattle.wf_model.specs.declared.chart.Transition.{Transition}
 use Rattle.wf_model.specs.declared.value.Sort.TheVariants as sorts
-use Rattle.wf_model.specs.declared.ids.VarId.{VarId}
-use Rattle.wf_model.specs.declared.ids.ActId.{ActId}
-use Rattle.wf_model.specs.declared.ids.TransId.{TransId}
 use Rattle.wf_model.specs.Seen.{val_sort}
 use Rattle.wf_model.specs.Sorts.{alike}
 use Rattle.wf_model.specs.Accepted.{all_of, has_sort, are_outputs, is_sorted_action}

@@ -1,4 +1,4 @@
--- What contracts see of `Claims` and of its seats.
+-- Of other calls. What contracts see of `Claims` and of its seats.
 use Rattle.std.specs.Prelude.{◌≡◌, ℕ, ◌+◌, ◌≤◌, Bool, false, List, [], ◌∷◌, length}
 use Rattle.atomic_table.specs.Table.{Me}
 use Rattle.atomic_table.specs.Seated.{TableId}

@@ -1,4 +1,4 @@
--- What a call answers, unless memory runs out.
+-- Of other calls. What a call answers, unless memory runs out.
 use Rattle.std.specs.Prelude.{◌≡◌, ℕ, Result, Ok, Err, Option, Some, None}
 use Rattle.wf_model.specs.declared.update.Update.{Update}
 use Rattle.wf_codec.specs.declared.fault.FieldFault.{FieldFault}

@@ -1,4 +1,4 @@
--- The body of a record.
+-- Of other calls. The body of a record.
 use Rattle.std.specs.Prelude.{ℕ, ◌≡◌, ◌≤◌, List, length, Some}
 use Rattle.wf_model.specs.Limits.{max_body}
 use Rattle.wf_codec.specs.declared.record.JournalRecord.{JournalRecord}

@@ -1,4 +1,4 @@
--- Whether an update is in range, as truths.
+-- Inner. Whether an update is in range, as truths.
 use Rattle.std.specs.Prelude.{◌+◌, ◌==◌, ◌&&◌, ◌||◌, nat_lt, nat_le, Bool, true, List, [], ◌∷◌, length}
 use Rattle.std.specs.List.{list_all}
 use Rattle.wf_model.specs.Limits.{max_units, max_events, max_vars, max_acts, max_states, max_transitions, max_actions, max_outputs, max_steps, max_fired, max_starts, max_sealed}

@@ -1,4 +1,4 @@
--- Reading the fields of an update.
+-- Of other calls. Reading the fields of an update.
 use Rattle.std.specs.Prelude.{ℕ, suc, ◌+◌, ◌-◌, ◌^◌, ◌==◌, List, [], ◌∷◌, length, Option, Some, None, Result, Ok, Err, if◌then◌else◌}
 use Rattle.std.specs.Int.{w16, w32, w64, cast_signed}
 use Rattle.wf_model.specs.Limits.{max_units, max_states, max_transitions, max_actions, max_outputs, max_text, max_steps, max_fired, max_starts, max_sealed}

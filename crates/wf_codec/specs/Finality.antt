@@ -1,4 +1,4 @@
--- When an answer is final, and when it comes.
+-- Of the laws. When an answer is final, and when it comes.
 use Rattle.std.specs.Prelude.{ℕ, ◌≡◌, ◌≢◌, ◌+◌, ◌<◌, ◌≤◌, List, ◌++◌, length, take, Ok, Err}
 use Rattle.wf_model.specs.declared.update.Update.{Update}
 use Rattle.wf_codec.specs.declared.fault.CodecFault.TheVariants as codec

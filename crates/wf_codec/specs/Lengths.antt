@@ -1,4 +1,4 @@
--- How long records are.
+-- Of the laws. How long records are.
 use Rattle.std.specs.Prelude.{ℕ, ◌+◌, ◌*◌, ◌≤◌, List, length}
 use Rattle.wf_model.specs.declared.outer.Outer.{Outer}
 use Rattle.wf_model.specs.declared.update.Update.{Update}

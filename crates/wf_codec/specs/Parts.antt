@@ -1,4 +1,4 @@
--- The two halves of the lists of an update.
+-- Inner. The two halves of the lists of an update.
 use Rattle.std.specs.Prelude.{ℕ, List, ◌++◌}
 use Rattle.wf_model.specs.declared.update.Update.{Update}
 use Rattle.wf_codec.specs.Spelling.{listed, state_spelling, write_spelling, event_spelling, start_spelling, trans_spelling, outer_spelling}

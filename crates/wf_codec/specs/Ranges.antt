@@ -1,4 +1,5 @@
--- What can be spelled: each field is in its range, each list in its order, and each value is one that its type keeps.
+-- Of other calls. Which updates can be spelled.
+-- Each field is in its range, each list in its order, and each value is one that its type keeps.
 use Rattle.std.specs.Prelude.{ℕ, ◌≡◌, ◌⊎◌, ◌+◌, ◌<◌, ◌≤◌, ◌^◌, List, [], ◌∷◌, length, IsTrue}
 use Rattle.std.specs.List.{AllByRecursion}
 use Rattle.std.specs.Int.{w64}

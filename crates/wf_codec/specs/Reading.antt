@@ -1,4 +1,5 @@
--- Reading from left to right, with the first fault that is met. A field that is read is a value and the bytes behind it.
+-- Of other calls. Reading from left to right, with the first fault that is met.
+-- A field that is read is a value and the bytes behind it.
 use Rattle.std.specs.Prelude.{ℕ, zero, suc, ◌≡◌, List, [], ◌∷◌, length, take, drop, Option, Some, None, Result, Ok, Err, Bool, ◌&&◌, nat_le, nat_lt, if◌then◌else◌}
 use Rattle.std.specs.Borrow.{Bor}
 use Rattle.std.specs.Int.{Width, w64, byte_len, from_be_bytes}

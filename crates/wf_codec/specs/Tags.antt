@@ -1,4 +1,5 @@
--- The bytes by which spellings begin, as numbers, and how long a spelling may be. `bytes_are_numbers` ties the program's constants to them.
+-- Of other calls. The bytes by which spellings begin, and how long one may be, as numbers.
+-- `bytes_are_numbers` ties the program's constants to them.
 use Rattle.std.specs.Prelude.{ℕ}
 
 -- an update

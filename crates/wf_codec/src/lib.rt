@@ -1,5 +1,13 @@
-//! The bytes of updates and of journal records. Each value has one spelling; whatever bytes come, the answer is the value that begins them,
-//! or the first field that is wrong, or that they are too few.
+//! The bytes of updates and of journal records. Each value in its ranges has one spelling.
+//!
+//! - Promises: for any bytes `decode` answers the update that begins them, or the first field that
+//!   is wrong, or that they are too few. `decode_record` answers the record that has these bytes,
+//!   the whole of them, or that none has. Either may run out of memory instead.
+//! - Doesn't say: whether a record follows those before it.
+//! - A caller writes `let (update, len) = decode(alloc, &bytes)?;`. What follows is
+//!   `&bytes[len..]`.
+//! - A change of a field begins in `specs/Spelling.antt` (its bytes), `specs/Ranges.antt` (its
+//!   range) and `specs/Fields.antt` (how it is read), and one of a record in `specs/Records.antt`.
 #![tactic(auto)]
 
 mod body;

@@ -1,4 +1,9 @@
-//! Updates and records as bytes, against bytes that were worked out by hand.
+//! Tests: updates and records as bytes, against bytes that were worked out by hand.
+//!
+//! - Tries: the ends of each range, each byte changed, and the longest update.
+//! - Promises: nothing. No crate depends on it.
+//! - A caller: the gate runs its tests.
+//! - A change begins here if a field of an update or a record gets other bytes.
 #![tactic(auto)]
 
 #[cfg(test)]

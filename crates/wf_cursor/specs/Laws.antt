@@ -1,4 +1,4 @@
--- What follows from the definitions.
+-- Of the laws. Which words are names to the grammar.
 use Rattle.std.specs.Prelude.{◌≡◌, ℕ, not, List}
 use Rattle.wf_model.specs.Names.{is_reserved}
 use Rattle.wf_cursor.specs.declared.piece.Piece.TheVariants as pieces

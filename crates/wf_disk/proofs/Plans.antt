@@ -2,7 +2,8 @@
 use Rattle.std.proofs.Common.{◌≡◌, ◌≢◌, ◌↔◌, inl, inr, ℕ, ◌+◌, ◌≤◌, ◌<◌, ◌^◌, Bool, true, false, ◌||◌, nat_lt, Option, None, Some, refl, sym, ◌∙◌, ap, arith, rules}
 use Rattle.std.specs.Prelude.{is_some}
 use Rattle.std.proofs.lemmas.Bool.{cond-true, cond-false}
-use Rattle.wf_disk.specs.Disk.{IsDown, GoesOnOrStops, last_count}
+use Rattle.wf_model.specs.Faults.{last_count}
+use Rattle.wf_disk.specs.Disk.{IsDown, GoesOnOrStops}
 use Rattle.wf_disk.specs.Arms.{is_counted, fate_at, is_stop, fate_by}
 use Rattle.wf_disk.specs.Memory.{Held, told_of, is_stopped_for, fate_for, fate_of, has_stopped, failed}
 use Rattle.wf_disk.specs.declared.arm.Armed.{Armed}

@@ -6,7 +6,8 @@ use Rattle.wf_disk.specs.Strokes.{Stroke, State, Outcome, Since, image_after, to
 use Rattle.wf_disk.specs.declared.arm.Outcome.{Outcome as CrashOutcome}
 use Rattle.wf_disk.specs.declared.arm.Outcome.TheVariants as outcomes
 use Rattle.wf_disk.specs.declared.arm.Armed.{Armed}
-use Rattle.wf_disk.specs.Memory.{Held, told_of, image_of, counted, one_more}
+use Rattle.wf_model.specs.Faults.{one_more}
+use Rattle.wf_disk.specs.Memory.{Held, told_of, image_of, counted}
 use Rattle.wf_disk.specs.MemoryLaws.{image-state}
 use Rattle.wf_disk.proofs.Replays.{length-put_at, fits_first, fit_later, image_after-more}
 

@@ -1,4 +1,4 @@
--- What an armed disk does at a stroke.
+-- Of other calls. What an armed disk does at a stroke.
 use Rattle.std.specs.Prelude.{ℕ, ◌+◌, ◌==◌, Bool, true, false, if◌then◌else◌, Option, None, Some}
 use Rattle.wf_disk.specs.declared.arm.Arm.{Arm}
 use Rattle.wf_disk.specs.declared.arm.Arm.TheVariants.{Fail, Crash}

@@ -1,5 +1,6 @@
--- What a disk is told to be: what its calls do, and what a crash may leave between two syncs.
-use Rattle.std.specs.Prelude.{◌≡◌, ◌⊎◌, ℕ, ◌+◌, ◌-◌, ◌^◌, ◌≤◌, ◌<◌, min, max, List, ◌++◌, length, take, drop, Option, Some}
+-- Of other calls. A disk: what its calls do, and what a crash may leave between two syncs.
+use Rattle.std.specs.Prelude.{◌≡◌, ◌⊎◌, ℕ, ◌+◌, ◌≤◌, ◌<◌, max, List, ◌++◌, length, take, drop, Option, Some}
+use Rattle.wf_model.specs.Faults.{last_count, Rose}
 
 -- A disk at one moment. A stroke is a write or a sync, failed ones too.
 pub record Told : Type 1 where
@@ -82,11 +83,7 @@ pub record Elapses (old new : Told) : Type 0 where
   pub nothing_else : (t : ℕ) (c : List ℕ) → t ≤ old.moment → new.left_since t c → old.left_since t c ⊎ new.may_leave c
   pub keeps : (t : ℕ) → t ≤ old.moment → Within (old.left_since t) (new.left_since t)
 
--- the greatest number to which a disk counts
-abbrev pub last_count : ℕ
-last_count = 2 ^ 64 - 1
-
--- a clock that stood at its end, and stands there still
+-- a clock that stood at its end, the greatest count, and stands there still
 abbrev pub StandsAtEnd : Told → Told → Type 0
 StandsAtEnd old new = (old.clock ≡ last_count) × (new.clock ≡ last_count)
 
@@ -102,10 +99,6 @@ pub record GoesToPlan (old new : Told) (at_ok at_failure : Type 0) : Type 0 wher
   pub failed : at_failure → old.is_to_fail (old.clock + 1)
   pub goes_on_or_stops : at_failure → GoesOnOrStops old new (old.clock + 1)
 
--- a count that rose, or stands at its end
-abbrev pub Rose : ℕ → ℕ → Type 0
-Rose before now = min (before + 1) last_count ≤ now
-
 -- the count of faults doesn't fall, a failure comes only if it rose, and no other answer passes a fault over
 pub record HasCause (old new : Told) (failure : Type 0) : Type 0 where
   pub later : old.faults ≤ new.faults
@@ -118,6 +111,10 @@ pub record IsLawful (disk : Told) : Type 0 where
   pub stands : (file : List ℕ) → disk.image ≡ Some file → disk.may_leave file
   pub counts_now : (t : ℕ) → t ≤ disk.moment → Within disk.may_leave (disk.left_since t)
   pub only_now : Within (disk.left_since disk.moment) disk.may_leave
+  -- a stroke that is to stop it is one that is to fail
+  pub stops_fail : (n : ℕ) → disk.is_to_stop n → disk.is_to_fail n
+  -- where there is room for more, there is room for less
+  pub less : (writes more bytes many : ℕ) → disk.has_room (writes + more) (bytes + many) → disk.has_room writes bytes
 
 -- A crash at any moment since old leaves a file that has P.
 pub record LeavesOnly (old new : Told) (P : List ℕ → Type 0) : Type 0 where

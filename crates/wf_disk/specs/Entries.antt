@@ -1,4 +1,4 @@
--- How a disk in memory keeps its strokes: an entry for each, and the bytes of all writes in one buffer.
+-- Inner. How a disk in memory keeps its strokes: an entry for each, and one buffer of bytes.
 use Rattle.std.specs.Prelude.{◌≡◌, ℕ, ◌+◌, ◌<◌, ◌≤◌, List, [], ◌∷◌, length, take, drop}
 use Rattle.wf_disk.specs.declared.entry.Entry.{Entry}
 use Rattle.wf_disk.specs.declared.entry.Entry.TheVariants as entry

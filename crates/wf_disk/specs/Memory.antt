@@ -1,6 +1,7 @@
--- A disk in memory tells its moments from a record of its strokes.
-use Rattle.std.specs.Prelude.{◌≡◌, ◌≢◌, ℕ, ◌+◌, ◌≤◌, min, Bool, true, ◌||◌, ◌==◌, nat_lt, if◌then◌else◌, List, [], ◌∷◌, ◌++◌, length, drop, Option, None, Some, is_some, unwrap_or}
-use Rattle.wf_disk.specs.Disk.{Told, Only, last_count}
+-- Of other calls. A disk in memory tells its moments from a record of its strokes.
+use Rattle.std.specs.Prelude.{◌≡◌, ◌≢◌, ℕ, ◌+◌, ◌≤◌, Bool, true, ◌||◌, ◌==◌, nat_lt, if◌then◌else◌, List, [], ◌∷◌, ◌++◌, length, drop, Option, None, Some, is_some, unwrap_or}
+use Rattle.wf_model.specs.Faults.{last_count, one_more}
+use Rattle.wf_disk.specs.Disk.{Told, Only}
 use Rattle.wf_disk.specs.Strokes.{Stroke, State, Outcome, Since, image_after, left_after, are_fit, are_writes, first_state, state_after}
 use Rattle.wf_disk.specs.Arms.{fate_at, is_stop}
 use Rattle.wf_disk.specs.declared.arm.Arm.{Arm}
@@ -62,10 +63,6 @@ IsButForRoom wanted now = now ≡ record wanted { room = now.room; writes = now.
 pub record KeepsRoom (old new : Held) (bytes writes : ℕ) : Type 0 where
   pub bytes_left : old.room ≤ new.room + bytes
   pub writes_left : old.writes ≤ new.writes + writes
-
--- a count with one more, where it doesn't stand at its greatest value
-abbrev pub one_more : ℕ → ℕ
-one_more count = min (count + 1) last_count
 
 -- whether it has stopped before the stroke that moves the clock to n. A clock at its end stops it for good.
 abbrev pub is_stopped_for : Held → ℕ → Bool

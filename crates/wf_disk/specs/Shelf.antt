@@ -1,6 +1,7 @@
--- What a shelf of named disks is told to be, and what it is for a disk to be moved.
-use Rattle.std.specs.Prelude.{◌≡◌, ◌≤◌, ℕ, List, Option, None, Some}
-use Rattle.wf_disk.specs.Disk.{Told, Within, Only, Rose}
+-- Of other calls. A shelf of named disks, and what it is for a disk to be moved.
+use Rattle.std.specs.Prelude.{◌≡◌, ◌⊎◌, ◌≤◌, ◌<◌, ℕ, List, Option, None, Some}
+use Rattle.wf_model.specs.Faults.{Rose}
+use Rattle.wf_disk.specs.Disk.{Told, Within, Only}
 
 -- A shelf at one moment. A disk that was taken and not given back since is out; each other one stands on the shelf.
 pub record ShelfTold : Type 1 where
@@ -47,7 +48,12 @@ pub record IsGiven (name : List ℕ) (old new : ShelfTold) (disk : Told) : Type 
   pub past : (t : ℕ) → old.taken_at name ≡ Some t → Within (new.left_between name) (disk.left_since t)
   pub past_kept : (t : ℕ) → old.taken_at name ≡ Some t → Within (disk.left_since t) (new.left_between name)
 
--- the shelf's count of faults doesn't fall, and a failure has its cause
+-- the shelf's count of faults doesn't fall, it rose at a failure, and without one it is as before
 pub record ShelfHasCause (old new : ShelfTold) (failure : Type 0) : Type 0 where
   pub later : old.faults ≤ new.faults
   pub rose : failure → Rose old.faults new.faults
+  pub kept : (failure → ⊥) → new.faults ≡ old.faults
+
+-- a return fails if the shelf says so, or if the disk that comes back had failed
+abbrev pub FailsAtReturn : Type 0 → Told → Type 0
+FailsAtReturn refused disk = refused ⊎ (0 < disk.faults)

@@ -1,4 +1,4 @@
--- What strokes do to a disk, and what a crash may leave after them.
+-- Of other calls. What strokes do to a disk, and what a crash may leave after them.
 use Rattle.std.specs.Prelude.{◌≡◌, ◌⊎◌, ℕ, zero, suc, ◌+◌, max, Bool, true, false, ◌&&◌, nat_le, List, [], ◌∷◌, length, take, drop, replicate}
 use Rattle.wf_disk.specs.Disk.{put_at, Torn}
 use Rattle.wf_disk.specs.declared.arm.Outcome.{Outcome as CrashOutcome}

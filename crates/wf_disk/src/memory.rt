@@ -1,6 +1,7 @@
 //! A disk in memory, which fails and crashes where it is told to.
 ghost use Rattle.std.specs.Prelude.{◌≡◌, ◌≢◌, ◌↔◌, ◌+◌, ◌-◌, ◌≤◌, ◌^◌, ◌<◌, ℕ, Bool, true, false, Option, Some, None, List, length, take, drop, is_some, unwrap_or, IsTrue, IsOk, IsErr, IsErrOf, OnOk, OnErr, IfOk, IfSome, vec_capacity};
-ghost use Rattle.wf_disk.specs.Disk.{Told, put_at, Torn, Follows, Within, Only, Elapses, IsSame, IsDown, Strikes, GoesToPlan, HasCause, last_count};
+ghost use Rattle.wf_disk.specs.Disk.{Told, put_at, Torn, Follows, Within, Only, Elapses, IsSame, IsDown, Strikes, GoesToPlan, HasCause};
+ghost use Rattle.wf_model.specs.Faults.{last_count};
 ghost use Rattle.wf_disk.specs.declared.arm.Fate.TheVariants.{Done, Fails};
 
 use crate::arm::{Arm, Armed, Fate, Outcome, fate_at};
@@ -293,6 +294,7 @@ impl Disk for MemDisk {
 
         ensures done { OnOk result (fate_of self.old ≡ Done) }
         ensures fails { IsErrOf result WriteRefused.Failed → fate_of self.old ≢ Done }
+        ensures fails_at { fate_of self.old ≡ Fails → IsErrOf result WriteRefused.Failed }
         ensures next { (IsErrOf result WriteRefused.NoMemory → ⊥) → IsButForRoom (after_write self.old at bytes.now (fate_of self.old)) self.new }
         ensures unchanged { IsErrOf result WriteRefused.NoMemory → IsButForRoom self.old self.new }
     {

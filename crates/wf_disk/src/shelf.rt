@@ -1,7 +1,6 @@
 //! A shelf of named disks, from which a run takes its disks and to which it gives them back.
-ghost use Rattle.std.specs.Prelude.{◌≡◌, ◌≢◌, ◌<◌, List, ℕ, is_some, IsTrue, IfOk, IsErr, IsErrOf};
-ghost use Rattle.wf_disk.specs.Disk.{Rose};
-ghost use Rattle.wf_disk.specs.Shelf.{ShelfTold, KeepsDisk, IsTaken, IsGiven, ShelfHasCause};
+ghost use Rattle.std.specs.Prelude.{◌≡◌, ◌≢◌, List, ℕ, is_some, IsTrue, IfOk, IsErr, IsErrOf};
+ghost use Rattle.wf_disk.specs.Shelf.{ShelfTold, KeepsDisk, IsTaken, IsGiven, ShelfHasCause, FailsAtReturn};
 
 use crate::Disk;
 use std::alloc::AllocError;
@@ -40,7 +39,8 @@ impl From<AllocError> for TakeRefused {
 }
 
 /// Named disks. A disk is out from the take that hands it out until it is given back, and else stands on the shelf.
-/// A call fails only where the shelf's count of faults rises, and moves no disk but the one that it names.
+/// The shelf's count of faults rises exactly if a call fails or a disk comes back that had failed, but for its greatest
+/// value, at which it stays. A call moves no disk but the one that it names.
 pub trait DiskShelf {
     /// What it hands out.
     type Disk: Disk + Send;
@@ -49,20 +49,21 @@ pub trait DiskShelf {
     ghost told: { Self → ShelfTold };
 
     /// Hands out the disk of this name, as the shelf told it, with a count of faults of 0. A disk that is out is
-    /// refused with `Failed`. After an `Err` each disk is where it was. It makes the room for the disk's return.
+    /// refused with `Failed`. After an `Err` each disk is where it was, and unless that is `Failed` the count of faults is as
+    /// it was. It makes the room for the disk's return.
     fn take(&mut self, unit: &Name) -> Result<Self::Disk, TakeRefused>
         ensures taken { IfOk result (λ disk. IsTaken unit.now (told self.old) (told self.new) (Self.Disk.told disk)) }
         ensures others { (name : List ℕ) → name ≢ unit.now → KeepsDisk name (told self.old) (told self.new) }
         ensures refused { IsErr result → KeepsDisk unit.now (told self.old) (told self.new) }
+        ensures out { IsTrue (is_some ((told self.old).taken_at unit.now)) → IsErrOf result TakeRefused.Failed }
         ensures cause { ShelfHasCause (told self.old) (told self.new) (IsErrOf result TakeRefused.Failed) };
 
     /// Puts a disk back under the name of one that is out, also where it answers `Failed`. From then on the shelf
-    /// tells what a crash in between may have left of it. The shelf's count of faults rises where the disk's is over
-    /// 0. It takes no memory.
+    /// tells what a crash in between may have left of it. The shelf's count of faults rises if it answers `Failed`, and
+    /// if the disk's own count is over 0; else it stays. It takes no memory.
     fn give(&mut self, unit: &Name, disk: Self::Disk) -> Result<(), Failed>
         requires out { IsTrue (is_some ((told self.old).taken_at unit.now)) }
         ensures given { IsGiven unit.now (told self.old) (told self.new) (Self.Disk.told disk) }
         ensures others { (name : List ℕ) → name ≢ unit.now → KeepsDisk name (told self.old) (told self.new) }
-        ensures cause { ShelfHasCause (told self.old) (told self.new) (IsErr result) }
-        ensures takes_in { 0 < (Self.Disk.told disk).faults → Rose (told self.old).faults (told self.new).faults };
+        ensures cause { ShelfHasCause (told self.old) (told self.new) (FailsAtReturn (IsErr result) (Self.Disk.told disk)) };
 }

@@ -1,4 +1,10 @@
-//! Tests of disks, shelves and journals: what no clause of theirs says, and each of their calls once.
+//! Tests: what no clause of disks, shelves and journals says, and each of their calls once.
+//!
+//! - Tries: a disk in memory that stops, fails and crashes; a journal on it that is started again;
+//!   a shelf.
+//! - Promises: nothing. No crate depends on it.
+//! - A caller: the gate runs its tests.
+//! - A change begins here if another failure of a disk is to be tried.
 #![tactic(auto)]
 
 #[cfg(test)]

@@ -1,6 +1,7 @@
 //! A shelf that can be met, and a caller that knows no more of a shelf than the trait says.
 ghost use Rattle.std.specs.Prelude.{◌≡◌, ◌<◌, ◌+◌, ◌-◌, ◌^◌, ◌&&◌, ◌==◌, [], ℕ, List, Some, None, true, if◌then◌else◌, min, length, OnOk, IfOk, IfSome};
-ghost use Rattle.wf_disk.specs.Disk.{Only, put_at, last_count};
+ghost use Rattle.wf_model.specs.Faults.{last_count, one_more};
+ghost use Rattle.wf_disk.specs.Disk.{Only, put_at};
 ghost use Rattle.wf_disk.specs.Shelf.{HasNothingUnsynced};
 
 use std::test::Fail;
@@ -39,7 +40,7 @@ struct Dead {
 
 impl Dead {
     fn fail(&mut self) -> Failed
-        ensures next { self.new.faults ≡ min (self.old.faults + 1) (2 ^ 64 - 1) }
+        ensures next { self.new.faults ≡ one_more self.old.faults }
         ensures range { self.old.faults < 2 ^ 64 }
     {
         self.faults = self.faults.saturating_add(1);
@@ -83,6 +84,8 @@ impl Disk for Dead {
       stands = λ file is. sym (ap (λ o. unwrap_or o []) is);
       counts_now = λ t within c now. now;
       only_now = λ c left. left;
+      stops_fail = λ n stops. stops;
+      less = λ writes more bytes many room. room;
     } };
 }
 
@@ -95,7 +98,7 @@ struct Drawer {
 
 impl Drawer {
     fn fail(&mut self) -> Failed
-        ensures next { self.new ≡ record self.old { faults = min (self.old.faults + 1) (2 ^ 64 - 1) } }
+        ensures next { self.new ≡ record self.old { faults = one_more self.old.faults } }
         ensures range { self.old.faults < 2 ^ 64 }
     {
         self.faults = self.faults.saturating_add(1);

@@ -1,5 +1,13 @@
-//! Servers that act lines one after another, and the call that runs a script of lines on them. What comes of a script is
-//! a run of the servers' own, whatever the servers are: who calls `drive` reads their relations and nothing else.
+//! Servers that act lines one after another, and the call that runs a script of lines on them,
+//! whatever the servers are.
+//!
+//! - Promises: `drive` has the servers act each line once, in order, and then finish. The replies
+//!   and the ending are a run of the servers' own relations. A fault comes only if such a run leads
+//!   to it.
+//! - Doesn't say: what these relations are: each kind of servers says that.
+//! - A caller: `wf_play_tests` drives servers that give out numbers.
+//! - A command that runs a script on servers begins here: it says what its servers' state, lines
+//!   and replies are.
 #![tactic(auto)]
 
 mod running;

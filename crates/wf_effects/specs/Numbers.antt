@@ -1,4 +1,4 @@
--- The numbers of transitions.
+-- Inner. The numbers of transitions.
 use Rattle.std.specs.Prelude.{ℕ, List, map}
 use Rattle.wf_model.specs.declared.ids.TransId.{TransId}
 

@@ -1,4 +1,4 @@
--- What actions make of what was gathered before them.
+-- Inner. What actions make of what was gathered before them.
 use Rattle.std.specs.Prelude.{ℕ, ◌+◌, ◌++◌, ◌<◌, Bool, true, false, List, [], ◌∷◌, Result, Ok, Err, IsOk, length, map, filter, replicate, slice_set, slice_index_or}
 use Rattle.std.specs.List.{range_with_len}
 use Rattle.wf_model.specs.declared.ids.EventId.{EventId}

@@ -1,4 +1,4 @@
--- The integers of an expression.
+-- Of other calls. The integers of an expression.
 use Rattle.std.specs.Prelude.{◌≡◌, ◌^◌, ◌&&◌, Bool, true, nat_lt, refl}
 use Rattle.wf_model.specs.declared.expr.Op.{Op}
 use Rattle.wf_model.specs.declared.expr.Expr.{Expr, end_of-Expr, more_of-Expr}

@@ -1,4 +1,4 @@
--- The reader of charts and their grammar say the same.
+-- Of the laws. The reader of charts and their grammar say the same.
 use Rattle.std.specs.Prelude.{◌≡◌, ℕ, List, map, Ok}
 use Rattle.wf_model.specs.declared.chart.Chart.{Chart}
 use Rattle.wf_lex.specs.declared.token.Token.{Token}

@@ -1,4 +1,4 @@
--- The grammar of charts: chart = chart NAME ; { decl } [ state ] { trans }
+-- Of the laws. The grammar of charts: chart = chart NAME ; { decl } [ state ] { trans }
 use Rattle.std.specs.Prelude.{◌≤◌, List, ◌∷◌, ◌++◌, length}
 use Rattle.wf_model.specs.Limits.{max_name}
 use Rattle.wf_model.specs.declared.chart.Transition.{Transition}

@@ -1,4 +1,4 @@
--- The grammar of declarations as relations, with a constructor for each alternative of each of its lines.
+-- Of the laws. The grammar of declarations, a constructor for each alternative of a line.
 use Rattle.std.specs.Prelude.{◌≡◌, ℕ, ◌+◌, true, false, List, [], ◌∷◌, ◌++◌, Option, Some, None, pos, neg_ℤ}
 use Rattle.wf_model.specs.declared.ids.UnitId.{UnitId}
 use Rattle.wf_model.specs.declared.ids.VarId.{VarId}

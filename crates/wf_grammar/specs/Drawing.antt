@@ -1,4 +1,4 @@
--- The grammar of states as relations, with a constructor for each alternative of each of its lines.
+-- Of the laws. The grammar of states, a constructor for each alternative of a line.
 use Rattle.std.specs.Prelude.{ℕ, suc, List, [], ◌∷◌, ◌++◌, Option, Some, None}
 use Rattle.wf_model.specs.Limits.{max_open}
 use Rattle.wf_model.specs.declared.ids.UnitId.{UnitId}

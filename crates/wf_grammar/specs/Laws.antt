@@ -1,4 +1,4 @@
--- The reader of expressions and the grammar say the same.
+-- Of the laws. The reader of expressions and the grammar say the same.
 use Rattle.std.specs.Prelude.{◌≡◌, ◌≢◌, ◌≤◌, ◌+◌, ℕ, List, [], ◌∷◌, ◌++◌, length, drop, Option, Some, None, Ok}
 use Rattle.wf_model.specs.Limits.{max_nodes, max_open}
 use Rattle.wf_model.specs.declared.expr.Op.{Op}

@@ -1,4 +1,4 @@
--- Tokens as the grammar sees them.
+-- Of the laws. Tokens as the grammar sees them.
 use Rattle.std.specs.Prelude.{ℕ, List, map, slice_range}
 use Rattle.wf_lex.specs.declared.token.Token.{Token}
 use Rattle.wf_cursor.specs.declared.piece.Piece.{Piece}

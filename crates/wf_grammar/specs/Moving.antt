@@ -1,4 +1,4 @@
--- The grammar of transitions as relations, with a constructor for each alternative of each of its lines.
+-- Of the laws. The grammar of transitions, a constructor for each alternative of a line.
 use Rattle.std.specs.Prelude.{◌≤◌, List, [], ◌∷◌, ◌++◌, Option, Some, None}
 use Rattle.wf_model.specs.Limits.{max_nodes, max_open}
 use Rattle.wf_model.specs.declared.ids.EventId.{EventId}

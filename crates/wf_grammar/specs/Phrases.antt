@@ -1,4 +1,4 @@
--- The grammar of expressions as a relation, with a constructor for each alternative of each of its lines.
+-- Of the laws. The grammar of expressions, a constructor for each alternative of a line.
 use Rattle.std.specs.Prelude.{◌≡◌, ◌≤◌, ℕ, suc, true, false, List, [], ◌∷◌, ◌++◌, length, Some}
 use Rattle.wf_model.specs.Limits.{max_name, max_int}
 use Rattle.wf_model.specs.declared.ids.VarId.{VarId}

@@ -1,4 +1,4 @@
--- What is declared where a rule of a chart's text begins, and what a declaration adds.
+-- Of the laws. What is declared where a rule begins, and what a declaration adds.
 use Rattle.std.specs.Prelude.{◌≡◌, ◌≤◌, ℕ, List, [], ◌∷◌, ◌++◌, length, None}
 use lib.Chars.{codes}
 use Rattle.wf_model.specs.Limits.{max_name}

@@ -1,5 +1,11 @@
-//! The grammar of expressions and of charts as relations, and that the readers say the same. Each public function is a law and
-//! has nothing to do.
+//! The grammar of charts and of expressions as relations, and laws that the readers say the same.
+//!
+//! - Promises: a text means a chart exactly if its tokens are a text of that chart by the grammar,
+//!   and they are a text of at most one chart. The same holds of expressions within the limits on
+//!   nodes and parentheses. Each public function is a law and has nothing to do.
+//! - Doesn't say: which fault a text has that means no chart.
+//! - A caller: the proofs of `wf_readback` show by these laws what the canonical text means.
+//! - A change of the chart's grammar is made here too, in the relation of the rule.
 #![tactic(auto)]
 
 mod chart_laws;

@@ -1,4 +1,4 @@
--- Agreement of the units' histories, and the merged list.
+-- Of the laws. Agreement of the units' histories, and the merged list.
 use Rattle.std.specs.Prelude.{ℕ, zero, suc, ◌+◌, ◌≡◌, ◌<◌, ◌≤◌, ◌==◌, not, min, List, [], map, filter, flat_map}
 use Rattle.std.specs.List.{range_with_len}
 use Rattle.wf_model.specs.declared.chart.Chart.{Chart}

@@ -1,4 +1,5 @@
--- What a unit's history has beside its inputs: each completion is of an item that was there, and no item has two.
+-- Of the laws. Which entries may follow each other in a unit's history.
+-- Each completion is of an item that was there, and no item has two.
 use Rattle.std.specs.Prelude.{ℕ, zero, suc, ◌≡◌, ◌<◌, ◌==◌, ◌&&◌, not, Bool, true, false, List, [], ◌∷◌, ◌++◌, map, filter, flat_map, insert, Option, Some, None, slice_get}
 use Rattle.std.specs.List.{list_any, list_all, range_with_len}
 use Rattle.wf_model.specs.Limits.{max_transitions}

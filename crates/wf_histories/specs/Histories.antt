@@ -1,4 +1,4 @@
--- A unit's history, and what the unit makes of it by its part alone.
+-- Of the laws. A unit's history, and what the unit makes of it by its part alone.
 use Rattle.std.specs.Prelude.{ℕ, zero, suc, List, [], map, length, take, drop, get_or, sum, insert}
 use Rattle.wf_model.specs.declared.ids.UnitId.{UnitId}
 use Rattle.wf_model.specs.declared.outer.Outer.{Outer}

@@ -1,4 +1,4 @@
--- When a source or a sink may answer that it failed.
+-- Inner. When a source or a sink may answer that it failed.
 use Rattle.std.specs.Prelude.{ℕ, ◌≡◌, ◌≤◌, Result, OnOk, OnErr}
 use Rattle.wf_model.specs.Faults.{Rose}
 

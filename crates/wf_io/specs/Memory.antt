@@ -1,4 +1,4 @@
--- A source and a sink in memory, which fail where they are told to.
+-- Of other calls. A source and a sink in memory, which fail where they are told to.
 use Rattle.std.specs.Prelude.{ℕ, List, Contains}
 use Rattle.wf_model.specs.Faults.{one_more}
 

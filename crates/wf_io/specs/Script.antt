@@ -1,4 +1,4 @@
--- A clock that gives the moments of a list.
+-- Of other calls. A clock that gives the moments of a list.
 use Rattle.std.specs.Prelude.{◌≡◌, ℤ, List, Option, Some, drop, length, nat_lt, slice_get, if◌then◌else◌}
 
 -- the moments to come, of which the last comes again and again, and the last that was given

@@ -49,8 +49,8 @@ impl From<NoMemory> for InFault {
 /// All bytes up to the end, where there are at most `limit`. In linear time.
 ///
 /// `ReadFailed` comes only where the source's count of faults rose in this call, and at every other answer no read
-/// failed. `TooLong` comes only where there are more than `limit` bytes, and there `Ok` never does. After an error
-/// some bytes at the front were read and are lost.
+/// failed. `TooLong` comes only where there are more than `limit` bytes, and there `Ok` never does; of a source that
+/// doesn't tell its bytes nothing is said of `TooLong`. After an error some bytes at the front were read and are lost.
 pub fn read_all<S: Source>(alloc: Global, source: &mut S, limit: u32) -> Result<Bytes, InFault>
     ensures all { IfOk result (λ bytes. Consumes (S.left source.old) (S.left source.new) bytes) }
     ensures end { OnOk result (IsAtEnd (S.left source.new)) }

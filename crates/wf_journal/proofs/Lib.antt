@@ -1,3 +1,4 @@
+pub mod Ends
 mod Cuts
 mod Shapes
 mod Strokes
@@ -10,3 +11,4 @@ pub mod Plans
 mod Walks
 mod StartPlans
 pub mod Answered
+mod Rooms

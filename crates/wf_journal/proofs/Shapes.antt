@@ -5,7 +5,8 @@ use Rattle.std.proofs.lemmas.Bool.{cond-true}
 use Rattle.std.proofs.lemmas.Nat.{from_be_bytes-to_be_bytes_4}
 use Rattle.std.specs.Int.{w32, to_be_bytes, from_be_bytes}
 use Rattle.wf_model.specs.Limits.{max_body}
-use Rattle.wf_journal.specs.Frames.{packed, fits, end_after, breaks_after, bodies_of, end_of, is_broken, IsAtRest, IsAsBefore, IsBeforeOrAfter}
+use Rattle.wf_journal.specs.Frames.{packed, fits, bodies_of, end_of, is_broken, IsAtRest, IsAsBefore, IsBeforeOrAfter}
+use Rattle.wf_journal.proofs.Ends.{end_after, breaks_after, end_of-walk, is_broken-walk, rests-end, rests-whole}
 use Rattle.wf_journal.proofs.Walks.{bodies_after, bodies_of-walk}
 use Rattle.wf_journal.proofs.Cuts.{Cut, cut, bodies-closed, end-closed, breaks-closed}
 
@@ -68,27 +69,25 @@ module _ (file : List ℕ) (place : ℕ) (rests : IsAtRest file place) where
   abbrev pub gate : ℕ
   gate = get_or file place 1
 
+  ends : end_after 0 file ≡ place
+  ends = rests-end file place rests
+
   cut_here : (g : ℕ) (tail : List ℕ) → Cut 0 file g tail
-  unfolding is_broken end_of
-  cut_here g tail = cut 0 file g tail rests.whole (omega (arith, rests.end, rests.within))
+  cut_here g tail = cut 0 file g tail (rests-whole file place rests) (omega (arith, ends, rests.within))
 
   cut_bodies : (g : ℕ) (tail : List ℕ) → bodies_of (front ++ g ∷ tail) ≡ bodies_of file ++ bodies_after 0 (g ∷ tail)
-  unfolding end_of
   cut_bodies g tail =
-      bodies_of-walk (front ++ g ∷ tail) ∙ subst (λ k. bodies_after 0 (take k file ++ g ∷ tail) ≡ bodies_after 0 file ++ bodies_after 0 (g ∷ tail)) rests.end (cut_here g tail).bodies
+      bodies_of-walk (front ++ g ∷ tail) ∙ subst (λ k. bodies_after 0 (take k file ++ g ∷ tail) ≡ bodies_after 0 file ++ bodies_after 0 (g ∷ tail)) ends (cut_here g tail).bodies
       ∙ ap (λ l. l ++ bodies_after 0 (g ∷ tail)) (sym (bodies_of-walk file))
 
   cut_end : (g : ℕ) (tail : List ℕ) → end_of (front ++ g ∷ tail) ≡ place + end_after 0 (g ∷ tail)
-  unfolding end_of
-  cut_end g tail = subst (λ k. end_after 0 (take k file ++ g ∷ tail) ≡ k + end_after 0 (g ∷ tail)) rests.end (cut_here g tail).end
+  cut_end g tail = end_of-walk (front ++ g ∷ tail) ∙ subst (λ k. end_after 0 (take k file ++ g ∷ tail) ≡ k + end_after 0 (g ∷ tail)) ends (cut_here g tail).end
 
   cut_breaks : (g : ℕ) (tail : List ℕ) → is_broken (front ++ g ∷ tail) ≡ breaks_after 0 (g ∷ tail)
-  unfolding is_broken end_of
-  cut_breaks g tail = subst (λ k. breaks_after 0 (take k file ++ g ∷ tail) ≡ breaks_after 0 (g ∷ tail)) rests.end (cut_here g tail).breaks
+  cut_breaks g tail = is_broken-walk (front ++ g ∷ tail) ∙ subst (λ k. breaks_after 0 (take k file ++ g ∷ tail) ≡ breaks_after 0 (g ∷ tail)) ends (cut_here g tail).breaks
 
   pub shut : (gate == 1) ≡ false
-  unfolding end_of
-  shut = subst (λ k. (get_or file k 1 == 1) ≡ false) rests.end (cut_here 0 []).shut
+  shut = subst (λ k. (get_or file k 1 == 1) ≡ false) ends (cut_here 0 []).shut
 
   length-front : length front ≡ place
   length-front = length-take-le place file (omega (arith, rests.within))

@@ -5,10 +5,11 @@ use Rattle.std.proofs.lemmas.List.Elements.{All-nil, All-head, All-tail, All-con
 use Rattle.std.proofs.lemmas.Nat.{be_bytes_4}
 use Rattle.std.specs.Int.{w32, to_be_bytes}
 use Rattle.wf_model.specs.Limits.{max_body}
-use Rattle.wf_journal.specs.Frames.{open_gate, number_of, packed, fits, end_after, breaks_after, bodies_of, end_of, is_broken, IsAtRest}
+use Rattle.wf_journal.specs.Frames.{open_gate, number_of, packed, fits, bodies_of, IsAtRest}
+use Rattle.wf_journal.proofs.Ends.{end_after, breaks_after, fits-inside, end_of-walk, is_broken-walk, rests-end}
 use Rattle.wf_journal.specs.Laws.{IsBody, frame_of, frames_of, AreBytes}
 use Rattle.wf_journal.proofs.Walks.{bodies_after, bodies_of-walk}
-use Rattle.wf_journal.proofs.Cuts.{bodies-closed, end-closed, breaks-closed, fits-inside}
+use Rattle.wf_journal.proofs.Cuts.{bodies-closed, end-closed, breaks-closed}
 use Rattle.wf_journal.proofs.Shapes.{bodies-front, end-front, breaks-front, shut}
 
 -- THE FRAMES ARE READ
@@ -41,10 +42,10 @@ pub frames_bodies : (bodies : List (List ℕ)) (gate : ℕ) (tail : List ℕ) �
 frames_bodies bodies gate tail are isnt = let s = spells bodies gate tail are (isnt_open gate isnt) in bodies_of-walk (frames_of bodies ++ gate ∷ tail) ∙ s.has
 
 pub frames_rest : (bodies : List (List ℕ)) (gate : ℕ) (tail : List ℕ) → All IsBody bodies → gate ≢ open_gate → IsAtRest (frames_of bodies ++ gate ∷ tail) (length (frames_of bodies))
-unfolding is_broken end_of
 frames_rest bodies gate tail are isnt =
     let s = spells bodies gate tail are (isnt_open gate isnt) in
-    record { whole = s.whole; end = s.end; within = omega (arith, length-append (frames_of bodies) (gate ∷ tail)) }
+    let file = frames_of bodies ++ gate ∷ tail in
+    record { whole = is_broken-walk file ∙ s.whole; end = end_of-walk file ∙ s.end; within = omega (arith, length-append (frames_of bodies) (gate ∷ tail)) }
 
 -- A JOURNAL IS FRAMES
 
@@ -126,8 +127,7 @@ front zero (gate ∷ a ∷ b ∷ c ∷ d ∷ rest) le are = go (gate == 1) refl 
     go false is f fit more = refl
 
 pub front_frames : (file : List ℕ) (place : ℕ) → AreBytes file → IsAtRest file place → take place file ≡ frames_of (bodies_of file)
-unfolding end_of
-front_frames file place are rests = ap (λ k. take k file) (sym rests.end) ∙ front 0 file (omega arith) are ∙ ap frames_of (sym (bodies_of-walk file))
+front_frames file place are rests = ap (λ k. take k file) (sym (rests-end file place rests)) ∙ front 0 file (omega arith) are ∙ ap frames_of (sym (bodies_of-walk file))
 
 pub gate_shut : (file : List ℕ) (place : ℕ) → IsAtRest file place → get_or file place open_gate ≢ open_gate
 gate_shut file place rests = let is : (get_or file place 1 == 1) ≡ false = shut file place rests in search (rules, is)

@@ -53,8 +53,8 @@ kept_written t0 t1 t2 t3 t4 size law image1 synced known few same tells follows 
 
 -- a read of a file at rest can begin at its front
 pub begins : (file : List ℕ) (place : ℕ) → IsAtRest file place → IsPlace file 0
-unfolding end_of is_broken
-begins file place rests = record { end = omega arith; whole = rests.whole; within = omega (arith, rests.within) }
+unfolding end_of is_broken frames_at
+begins file place rests = record { end = refl; whole = rests.whole; within = omega (arith, rests.within) }
 
 pub left_begins : (t0 t1 : Told) (place : ℕ) (more : List (List ℕ)) → IsLeft t0 t1 place more → is_some t1.image ≡ is_some t0.image → (file : List ℕ) → t1.image ≡ Some file → IsPlace file 0
 left_begins t0 t1 place more left tells file is = go t0.image refl
@@ -67,7 +67,7 @@ left_begins t0 t1 place more left tells file is = go t0.image refl
         subst (λ f. IsPlace f 0) same (begins new.0 place new.1.settled.rests)
 
 one_gate : IsAtRest (0 ∷ []) 0
-unfolding is_broken end_of
+unfolding is_broken end_of frames_at
 one_gate = record { whole = refl; end = refl; within = omega arith }
 
 one_gate_bodies : bodies_of (0 ∷ []) ≡ []

@@ -5,9 +5,9 @@ use Rattle.std.proofs.lemmas.Bool.{cond-true, cond-false}
 use Rattle.std.specs.Int.{w32, from_be_bytes}
 use Rattle.wf_journal.specs.declared.steps.Step.{Step}
 use Rattle.wf_journal.specs.declared.steps.Step.TheVariants.{Closed, Broken, Next}
-use Rattle.wf_journal.specs.Frames.{Frame, number_of, fits, frames_after, end_after, breaks_after, end_of, is_broken, IsAtRest}
+use Rattle.wf_journal.specs.Frames.{Frame, number_of, fits, frames_after, end_of, is_broken, IsAtRest}
 use Rattle.wf_journal.specs.Journal.{IsPlace}
-use Rattle.wf_journal.proofs.Cuts.{fits-inside}
+use Rattle.wf_journal.proofs.Ends.{end_after, breaks_after, fits-inside, end_from-walk, breaks_from-walk, end_of-walk, is_broken-walk}
 use Rattle.wf_journal.specs.StepAt.{step_of, fits_in}
 
 pub step_short : (at : ℕ) (xs : List ℕ) → get_or xs 0 0 ≡ 1 → length xs ≤ 5 → step_of at xs ≡ Broken
@@ -65,8 +65,7 @@ pub record Walked (file : List ℕ) (at : ℕ) : Type 0 where
   pub breaks : is_broken file ≡ breaks_after 0 (drop at file)
 
 pub walked_first : (file : List ℕ) → Walked file 0
-unfolding end_of is_broken
-walked_first file = record { end = omega arith; breaks = refl }
+walked_first file = record { end = end_of-walk file ∙ omega arith; breaks = is_broken-walk file }
 
 end-drop : (n : ℕ) (xs : List ℕ) → n ≤ length xs → end_after n xs ≡ n + end_after 0 (drop n xs)
 end-drop zero xs le = omega arith
@@ -193,7 +192,11 @@ place_next file at next place is within =
     let here : Stepped at (drop at file) (Next next) = subst (Stepped at (drop at file)) is (stepped at (drop at file) (omega (arith, place.within, length-drop at file))) in
     let n = here.0 in
     let same : drop n (drop at file) ≡ drop next file = drop-drop n at file ∙ ap (λ k. drop k file) (sym here.1) in
-    record { end = place.end ∙ omega (arith, here.1, here.3, ap (end_after 0) same); whole = ap (breaks_after 0) (sym same) ∙ sym here.4 ∙ place.whole; within = within }
+    record {
+      end = place.end ∙ omega (arith, end_from-walk file at, end_from-walk file next, here.1, here.3, ap (end_after 0) same);
+      whole = breaks_from-walk file next ∙ ap (breaks_after 0) (sym same) ∙ sym here.4 ∙ sym (breaks_from-walk file at) ∙ place.whole;
+      within = within;
+    }
 
 pub frame_here : (file bytes : List ℕ) (at next len : ℕ) → step_of at (drop at file) ≡ Next next → at + 5 < next → len ≡ next - at - 5 → bytes ≡ take len (drop (at + 5) file)
     → frames_after at 0 (drop at file) ≡ record { place = at; body = bytes } ∷ frames_after next 0 (drop next file)

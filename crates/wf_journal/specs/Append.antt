@@ -1,4 +1,4 @@
--- What an append leaves, wherever the disk told its image before.
+-- Of other calls. What an append leaves, wherever the disk told its image before.
 use Rattle.std.specs.Prelude.{◌≡◌, ℕ, ◌+◌, List, [], ◌∷◌, ◌++◌, Some}
 use Rattle.wf_disk.specs.Disk.{Told, put_at, LeavesOnly}
 use Rattle.wf_journal.specs.Frames.{open_gate, closed_gate, packed, bodies_of, IsAsBefore, IsBeforeOrAfter}

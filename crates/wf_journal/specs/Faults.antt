@@ -1,4 +1,4 @@
--- When a journal refuses.
+-- Of other calls. When a journal refuses.
 use Rattle.std.specs.Prelude.{ℕ, ◌+◌, ◌==◌, ◌||◌, Bool, nat_lt, if◌then◌else◌, Option, Some, None}
 use Rattle.wf_model.specs.Limits.{max_body, max_journal}
 use Rattle.wf_disk.specs.declared.disk.WriteRefused.{WriteRefused}

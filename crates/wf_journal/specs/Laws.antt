@@ -1,4 +1,4 @@
--- A journal's bytes in the words of the format.
+-- Of the laws. A journal's bytes in the words of the format.
 use Rattle.std.specs.Prelude.{ℕ, ◌≤◌, ◌<◌, List, ◌∷◌, length, flat_map, All}
 use Rattle.wf_model.specs.Limits.{max_body}
 use Rattle.wf_journal.specs.Frames.{open_gate, packed}

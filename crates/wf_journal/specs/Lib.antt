@@ -4,6 +4,7 @@ pub mod Frames
 pub mod Journal
 pub mod Laws
 pub mod Plan
+pub mod Room
 pub mod Start
 pub mod State
 pub mod StepAt

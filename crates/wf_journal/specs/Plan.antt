@@ -1,6 +1,7 @@
--- What became of the strokes that a disk is to fail, after a call that makes several.
+-- Of other calls. What became of the strokes that a disk is to fail, after several strokes.
 use Rattle.std.specs.Prelude.{◌≡◌, ◌⊎◌, ℕ, ◌+◌, ◌<◌, ◌≤◌, List, Some}
-use Rattle.wf_disk.specs.Disk.{Told, KeepsPlan, GoesOnOrStops, IsDown, last_count}
+use Rattle.wf_model.specs.Faults.{last_count}
+use Rattle.wf_disk.specs.Disk.{Told, KeepsPlan, GoesOnOrStops, IsDown}
 use Rattle.wf_journal.specs.Start.{start_strokes}
 
 -- each stroke of the call was done: none of them was to fail, if the disk tells its image, and the plan is kept

@@ -1,4 +1,4 @@
--- What a start finds and leaves, wherever the disk told its image before.
+-- Of other calls. What a start finds and leaves, wherever the disk told its image before.
 use Rattle.std.specs.Prelude.{◌≡◌, ℕ, ◌+◌, ◌<◌, ◌≤◌, true, false, nat_lt, if◌then◌else◌, List, [], ◌∷◌, length, Option, None, Some}
 use Rattle.wf_disk.specs.Disk.{Told, LeavesOnly}
 use Rattle.wf_journal.specs.Frames.{closed_gate, is_broken, end_of}

@@ -1,4 +1,4 @@
--- A journal between two calls.
+-- Of other calls. A journal between two calls.
 use Rattle.std.specs.Prelude.{◌≡◌, ℕ, Bool, false, refl}
 use Rattle.std.specs.Coded.{Coded, code_by, coded×, coded_ℕ, coded_bool}
 use Rattle.wf_disk.specs.Disk.{Told}

@@ -4,6 +4,7 @@ ghost use Rattle.wf_disk.specs.Disk.{HasCause, IsSafeFor};
 ghost use Rattle.wf_model.specs.Limits.{max_body, max_journal};
 ghost use Rattle.wf_journal.specs.Append.{IsWritten, LeavesBeforeOrAfter, LeavesBefore};
 ghost use Rattle.wf_journal.specs.Plan.{MeetsPlan};
+ghost use Rattle.wf_journal.specs.Room.{UsesRoom};
 ghost use Rattle.wf_journal.specs.Frames.{header};
 ghost use Rattle.wf_journal.specs.Journal.{IsSettled, IsLeft};
 
@@ -37,6 +38,7 @@ pub fn put<D: Disk>(
     ensures enough { (D.told disk.old).has_room 2 (length body.now + 6) →
         header + length body.now ≤ vec_capacity frame.old → IsErrOf result WriteRefused.NoMemory → ⊥ }
     ensures capacity { vec_capacity frame.old ≤ vec_capacity frame.new }
+    ensures disk_room { UsesRoom (D.told disk.old) (D.told disk.new) 2 (length body.now + 6) }
     ensures cause { HasCause (D.told disk.old) (D.told disk.new) (IsErrOf result WriteRefused.Failed) }
 {
     pack(frame, body)?;

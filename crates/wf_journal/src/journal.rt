@@ -1,8 +1,9 @@
 //! A journal: bodies that were appended in order, each on the disk before it is acknowledged.
-ghost use Rattle.std.specs.Prelude.{◌≡◌, ◌≢◌, ◌⊎◌, ◌+◌, ◌≤◌, ◌<◌, ◌∷◌, [], ℕ, true, false, None, IfSome, OnSome, is_some, IsNone, IfOk, IfErr, IsOk, OnOk, IsErr, IsErrOf, length};
+ghost use Rattle.std.specs.Prelude.{◌≡◌, ◌≢◌, ◌⊎◌, ◌+◌, ◌≤◌, ◌<◌, ◌∷◌, [], ℕ, List, true, false, None, Some, IfSome, OnSome, is_some, IsNone, IfOk, IfErr, IsOk, OnOk, IsErr, IsErrOf, length};
 ghost use Rattle.wf_disk.specs.Disk.{HasCause, IsDown, IsSafeFor, LeavesOnly, IsSame};
 ghost use Rattle.wf_journal.specs.Append.{IsWritten, LeavesBeforeOrAfter, LeavesBefore};
 ghost use Rattle.wf_journal.specs.Plan.{WentOn, MeetsPlan, StartMeetsPlan};
+ghost use Rattle.wf_journal.specs.Room.{UsesRoom};
 ghost use Rattle.wf_journal.specs.Start.{start_strokes, TakesStrokes, IsWhole, IsBadAt, IsMade, LeavesStart, CanBeRead};
 ghost use Rattle.wf_journal.specs.Frames.{header};
 ghost use Rattle.wf_journal.specs.Journal.{IsLeft, HasBodiesOf, KeepsBodies, IsReadFrom};
@@ -64,8 +65,10 @@ impl<D: Disk> Journal<D> {
     /// Finds the end of the journal on a disk, or makes a new one on a disk of fewer than two bytes. It syncs first.
     /// A refusal hands the disk back. Either way the disk has its bodies as before, and of two bytes or more it has each
     /// byte as before. A crash meanwhile leaves a disk on which a journal starts, if one did before. It makes three
-    /// strokes on a disk of fewer than two bytes and else one, which it makes also if it is refused by a bad frame. In
-    /// linear time in the number of frames, with the head of one in memory at a time.
+    /// strokes on a disk of fewer than two bytes and else one, which it makes also if it is refused by a bad frame.
+    /// `NoMemory` comes only on a disk of fewer than two bytes that has no room for a write of one byte, and of the
+    /// disk's room no more is gone than that write. In linear time in the number of frames, with the head of one in
+    /// memory at a time.
     pub fn start(alloc: Global, disk: D) -> Result<Journal<D>, JournalRefused<D>>
         // At Ok: a closed gate is found or made, and a crash leaves the file as it is.
         ensures left { IfOk result (λ journal.
@@ -98,6 +101,14 @@ impl<D: Disk> Journal<D> {
         ensures faults { IfOk result (λ journal. (D.told journal.disk).faults ≡ (D.told disk).faults) }
         ensures cause { IfErr result (λ refused.
             HasCause (D.told disk) (D.told refused.disk) (refused.fault ≡ StartFault.DiskFailed)) }
+
+        // It wants memory only for its one write of one byte, without room on the disk.
+        ensures enough { (D.told disk).has_room 1 1 →
+            IfErr result (λ refused. refused.fault ≢ StartFault.NoMemory) }
+        ensures no_need { (file : List ℕ) → (D.told disk).image ≡ Some file → 2 ≤ length file →
+            IfErr result (λ refused. refused.fault ≢ StartFault.NoMemory) }
+        ensures disk_room { IfOk result (λ journal. UsesRoom (D.told disk) (D.told journal.disk) 1 1) }
+        ensures disk_room_refused { IfErr result (λ refused. UsesRoom (D.told disk) (D.told refused.disk) 1 1) }
     {
         let mut disk = disk;
         match find_end(&mut disk) {
@@ -131,9 +142,10 @@ impl<D: Disk> Journal<D> {
 
     /// Adds a body, in four strokes. At `Ok` each crash from then on leaves a journal that has it. `Reopen`, `TooLong`
     /// and `Full` come in this order, before anything is done, and leave the journal as it was. After `NoMemory` the
-    /// bodies are as before; it doesn't come where the journal and its disk have room. `DiskFailed` comes at the first
-    /// stroke that the disk is to fail, which is the last of this call. Then the body may stand or not, and each later
-    /// append answers `Reopen`. In linear time in the body.
+    /// bodies are as before; it doesn't come where the journal and its disk have room. Of the disk's room no more is gone
+    /// than two writes, of the body's length and six bytes in all. `DiskFailed` comes at the first stroke that the disk
+    /// is to fail, which is the last of this call. Then the body may stand or not, and each later append answers
+    /// `Reopen`. In linear time in the body.
     pub fn append(&mut self, body: &[u8]) -> Result<(), AppendFault>
         // Refused before anything is done: nothing changed.
         ensures refused { IfSome (refusal_of self.old.failed self.old.place (length body.now))
@@ -176,6 +188,7 @@ impl<D: Disk> Journal<D> {
         ensures enough { length body.now ≤ self.old.room →
             (D.told self.old.disk).has_room 2 (length body.now + 6) → IsErrOf result AppendFault.NoMemory → ⊥ }
         ensures room { self.old.room ≤ self.new.room }
+        ensures disk_room { UsesRoom (D.told self.old.disk) (D.told self.new.disk) 2 (length body.now + 6) }
         ensures cause { HasCause (D.told self.old.disk) (D.told self.new.disk) (IsErrOf result AppendFault.DiskFailed) }
     {
         if let Some(fault) = self.refusal(body.len()) {
@@ -216,9 +229,11 @@ impl<D: Disk> Journal<D> {
     }
 
     /// Makes room of its own for an append of at most so many bytes. The room that it has stays, also at a refusal.
+    /// With that room already, for one byte or more, it answers Ok.
     pub fn reserve(&mut self, len: u32) -> Result<(), NoMemory>
         ensures room { OnOk result (len ≤ self.new.room) }
         ensures more { self.old.room ≤ self.new.room }
+        ensures succeeds { 1 ≤ len → len ≤ self.old.room → IsOk result }
         ensures kept { self.new ≡ record self.old { room = self.new.room } }
     {
         self.frame.clear();

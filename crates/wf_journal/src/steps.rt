@@ -2,6 +2,7 @@
 ghost use Rattle.std.specs.Prelude.{◌≡◌, ◌≢◌, ◌∷◌, IfSome, OnSome, ◌+◌, ◌≤◌, ◌<◌, ℕ, List, Option, None, Some, IfOk, IfErr, IsErr, IsErrOf, true, false, [], length, drop};
 ghost use Rattle.wf_disk.specs.Disk.{IsSame, IsDown, HasCause};
 ghost use Rattle.wf_journal.specs.Plan.{StartMeetsPlan};
+ghost use Rattle.wf_journal.specs.Room.{UsesRoom};
 ghost use Rattle.wf_journal.specs.Start.{TakesStrokes, IsWhole, IsBadAt, IsMade, LeavesStart};
 ghost use Rattle.wf_journal.specs.Frames.{header, IsAtRest, end_of, is_broken};
 ghost use Rattle.wf_journal.specs.Journal.{IsLeft, KeepsBodies, IsReadFrom};
@@ -82,6 +83,9 @@ pub fn find_end<D: Disk>(disk: &mut D) -> Result<u64, StartFault>
     ensures strokes { IfOk result (λ _. TakesStrokes (D.told disk.old) (D.told disk.new)) }
     ensures one_stroke { IfErr result (λ e. e ≢ StartFault.DiskFailed → (D.told disk.new).clock ≡ (D.told disk.old).clock + 1) }
     ensures plan { StartMeetsPlan (D.told disk.old) (D.told disk.new) (IsErrOf result StartFault.DiskFailed) }
+    ensures enough { (D.told disk.old).has_room 1 1 → IsErrOf result StartFault.NoMemory → ⊥ }
+    ensures no_need { (file : List ℕ) → (D.told disk.old).image ≡ Some file → 2 ≤ length file → IsErrOf result StartFault.NoMemory → ⊥ }
+    ensures disk_room { UsesRoom (D.told disk.old) (D.told disk.new) 1 1 }
     ensures cause { HasCause (D.told disk.old) (D.told disk.new) (IsErrOf result StartFault.DiskFailed) }
 {
     disk.sync()?;

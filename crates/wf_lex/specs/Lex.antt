@@ -36,7 +36,7 @@ abbrev pub with_kind : TokenKind → Option ℕ → Option (TokenKind × ℕ)
 with_kind kind None = None
 with_kind kind (Some n) = Some (kind, n)
 
--- the kind of the longest token that begins with this byte, and how many of the bytes behind it are its own
+-- the kind of the token that begins with this byte, and how many of the bytes behind it are its own
 unfoldable pub token_at : ℕ → List ℕ → Option (TokenKind × ℕ)
 token_at b bs =
     if is_letter b then Some (kinds.Word, length (take_while is_word_char bs))

@@ -1,4 +1,4 @@
--- How tokens stand in their text.
+-- Of the laws. How tokens stand in their text.
 use Rattle.std.specs.Prelude.{◌≡◌, ℕ, ◌+◌, Bool, true, false, not, ◌||◌, ◌&&◌, ◌==◌, List, [], ◌∷◌, ◌++◌, length, Some, IsTrue}
 use Rattle.wf_lex.specs.declared.token.TokenKind.{TokenKind}
 use Rattle.wf_lex.specs.declared.token.Token.{Token}
@@ -10,7 +10,7 @@ is_passed_over at_end comment [] = at_end || not comment
 is_passed_over at_end true (b ∷ bs) = is_passed_over at_end (not (b == 10)) bs
 is_passed_over at_end false (b ∷ bs) = (is_blank b || b == 35) && is_passed_over at_end (not (is_blank b)) bs
 
--- the body is a whole token of this kind, the longest that begins there
+-- the body is a whole token of this kind, the one that `token_at` answers there
 abbrev pub IsToken : TokenKind → (body rest : List ℕ) → Type 0
 IsToken kind [] rest = ⊥
 IsToken kind (b ∷ bs) rest = token_at b (bs ++ rest) ≡ Some (kind, length bs)

@@ -1,4 +1,4 @@
--- The run of all parts side by side.
+-- Of the laws. The run of all parts side by side.
 use Rattle.std.specs.Prelude.{ℕ, zero, suc, List, map}
 use Rattle.std.specs.List.{range_with_len}
 use Rattle.wf_model.specs.declared.outer.Outer.{Outer}

@@ -1,4 +1,4 @@
--- What a part's transitions read of a view of the part is there.
+-- Of the laws. What a part's transitions read of a view of the part is there.
 use Rattle.std.specs.Prelude.{ℕ, ◌≡◌, Some, slice_get}
 use Rattle.wf_model.specs.declared.ids.VarId.{VarId}
 use Rattle.wf_model.specs.declared.expr.Expr.{Expr}

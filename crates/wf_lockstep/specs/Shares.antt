@@ -1,4 +1,4 @@
--- What each unit contributes to a step of the central run.
+-- Of the laws. What each unit contributes to a step of the central run.
 use Rattle.std.specs.Prelude.{ℕ, zero, suc, ◌==◌, List, [], map, filter, flat_map, take, get_or}
 use Rattle.std.specs.List.{range_with_len}
 use Rattle.wf_model.specs.declared.chart.Chart.{Chart}

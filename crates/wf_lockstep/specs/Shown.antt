@@ -1,4 +1,4 @@
--- What a part shows of a central state.
+-- Of the laws. What a part shows of a central state.
 use Rattle.std.specs.Prelude.{◌==◌, List, map, filter, get_or}
 use Rattle.std.specs.List.{list_any}
 use Rattle.wf_model.specs.declared.outer.Entry.{Entry}

@@ -1,4 +1,4 @@
--- A unit's updates hold only what they may.
+-- Of the laws. A unit's updates hold only what they may.
 use Rattle.std.specs.Prelude.{ℕ, ◌≡◌, ◌&&◌, Bool, true, List}
 use Rattle.std.specs.List.{list_all}
 use Rattle.wf_model.specs.declared.chart.Chart.{Chart}

@@ -1,4 +1,4 @@
--- Which lines are lines of a chart: what a script of this chart can say.
+-- Of the laws. Which lines are lines of a chart: what a script of this chart can say.
 use Rattle.std.specs.Prelude.{◌==◌, ◌&&◌, not, nat_lt, nat_le, Bool, true, length}
 use Rattle.std.specs.List.{list_all}
 use Rattle.wf_model.specs.Limits.{max_int}

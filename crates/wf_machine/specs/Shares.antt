@@ -1,4 +1,5 @@
--- What a unit tells the others of a step: its share of the central run, and the outers that it lets in two steps later.
+-- Of the laws. What a unit tells the others of a step.
+-- Its share of the central run, and the outers that it lets in two steps later.
 use Rattle.std.specs.Prelude.{ℕ, ◌-◌, ◌==◌, ◌&&◌, Bool, not, List, [], ◌∷◌, length, map, filter, if◌then◌else◌, Option, Some, None, Result, Ok, Err}
 use Rattle.std.specs.List.{range_with_len, filter_map}
 use Rattle.wf_model.specs.declared.value.Val.{Val}

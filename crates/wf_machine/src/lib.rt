@@ -1,5 +1,11 @@
-//! What the servers of a chart count: the lines of a play, the replies, and a machine that fixes them. Definitions, tried
-//! on worked runs, and their laws; each public function is a law and has nothing to do.
+//! A machine that counts: for each line of a play its reply, by numbers and the central run alone.
+//!
+//! - Promises: what a server shows after so many steps, and an update that was sent, stay over all
+//!   later lines. What a server took in was sent to it. Each public function is a law and has
+//!   nothing to do.
+//! - Doesn't say: that any program does what the machine does.
+//! - A caller: `wf_play` writes the replies `Reply`, and reads the lines `Line`.
+//! - A change of a line of a play, or of its reply, begins here.
 #![tactic(auto)]
 
 mod admission;

@@ -1,5 +1,5 @@
 //! The replies to lines.
-use wf_model::{ActId, EventId, List, OuterFault, Output, StateId, StepNotes, UnitId, UnitSet};
+use wf_model::{ActId, List, OuterFault, Output, StateId, UnitId, UnitSet};
 
 /// What a unit shows: its own states that are in, and the variables that it knows with their values, ascending.
 #[derive(Drop)]
@@ -29,22 +29,8 @@ pub enum TurnReply {
 /// The reply to a line.
 #[derive(Drop)]
 pub enum Reply {
-    /// The central run admitted the outer.
-    Ok,
     /// The outer may not be admitted.
     Refused(OuterFault),
-    /// The central run took the step with this number.
-    Stepped {
-        step: u32,
-        notes: StepNotes,
-    },
-    /// The sight of the central run.
-    Central {
-        taken: u32,
-        states: List<StateId>,
-        vars: List<Output>,
-        raised: List<EventId>,
-    },
     /// It is the admission with this number now.
     New(u64),
     /// It was the admission with this number before.
@@ -57,20 +43,14 @@ pub enum Reply {
     Down,
     Turned(TurnReply),
     /// The messages with these numbers were sent.
-    Sent {
-        first: u32,
-        second: Option<u32>,
-    },
+    Sent { first: u32, second: Option<u32> },
     NoMessage,
     Fresh,
     Same,
     Old,
     Armed,
     /// How many steps the unit has taken, and how many admissions it has.
-    Recovered {
-        taken: u32,
-        admitted: u64,
-    },
+    Recovered { taken: u32, admitted: u64 },
     /// The unit's items in order of number, each with its activity and whether an admission completes it.
     Items(List<(ActId, u32, bool)>),
     Shown(Sight),

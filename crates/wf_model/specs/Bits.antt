@@ -1,4 +1,4 @@
--- Bits by number.
+-- Of other calls. Bits by number.
 use Rattle.std.specs.Prelude.{ℕ, Bool, false, List, slice_index_or}
 
 -- whether this bit is set; one past the end isn't

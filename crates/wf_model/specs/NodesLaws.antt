@@ -1,4 +1,4 @@
--- Sizes and numbers of an expression by its last operator.
+-- Inner. Sizes and numbers of an expression by its last operator.
 use Rattle.std.specs.Prelude.{◌≡◌, ◌+◌, ◌&&◌, refl}
 use Rattle.wf_model.specs.declared.chart.Chart.{Chart}
 use Rattle.wf_model.specs.declared.expr.Op.{Op}

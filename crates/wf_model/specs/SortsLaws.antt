@@ -1,4 +1,4 @@
--- The sorts of an expression by its last operator.
+-- Inner. The sorts of an expression by its last operator.
 use Rattle.std.specs.Prelude.{◌≡◌, ℕ, Option, refl}
 use Rattle.wf_model.specs.declared.value.Sort.{Sort}
 use Rattle.wf_model.specs.declared.value.Sort.TheVariants as s

@@ -1,4 +1,4 @@
--- The numbers that the program ends with.
+-- Of other calls. The numbers that the program ends with.
 use Rattle.std.specs.Prelude.{ℕ}
 use Rattle.wf_model.specs.declared.status.Status.{Status}
 use Rattle.wf_model.specs.declared.status.Status.TheVariants as status

@@ -1,4 +1,4 @@
--- The value of an expression by its last operator.
+-- Inner. The value of an expression by its last operator.
 use Rattle.std.specs.Prelude.{◌≡◌, ℕ, Option, Result, Ok, Err, IsOk, refl}
 use Rattle.wf_model.specs.declared.value.Sort.{Sort}
 use Rattle.wf_model.specs.declared.value.Sort.TheVariants as s

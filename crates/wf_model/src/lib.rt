@@ -1,4 +1,13 @@
-//! The types that every crate speaks of, and the definitions that change least: the accepted chart, sorts and values.
+//! The types that every crate speaks of, and the definitions that change least: limits, names,
+//! sorts and values of expressions, and which charts are accepted.
+//!
+//! - Promises: a `List`, `Name` or `Txt` changes only as its methods say, and not at all when a
+//!   method runs out of memory. A copy equals its original. The chart in a `Checked` is accepted.
+//! - Doesn't say: how much room a list has.
+//! - A caller: `wf_top` reads a `Chart` from text, and seals it as `Checked` if it breaks no rule.
+//! - A change begins here if it changes a limit (its number in `specs/Limits.antt`, its constant in
+//!   `src/limits.rt`), a type of a chart, which charts are accepted, or what an expression is
+//!   worth.
 #![tactic(auto)]
 
 mod bits;

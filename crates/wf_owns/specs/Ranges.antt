@@ -1,4 +1,4 @@
--- A unit's own update is in the ranges and orders that bytes have, on every view.
+-- Of the laws. A unit's own update is in the ranges and orders that bytes have, on every view.
 use Rattle.std.specs.Prelude.{ℕ, ◌≡◌, ◌<◌, ◌≤◌, ◌+◌, nat_le, Bool, true, List, length}
 use Rattle.std.specs.List.{list_all}
 use Rattle.wf_model.specs.Limits.{max_states, max_steps, max_sealed}

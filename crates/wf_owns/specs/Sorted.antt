@@ -1,4 +1,4 @@
--- The sorts of what a part's transitions read of a view of the part.
+-- Of the laws. The sorts of what a part's transitions read of a view of the part.
 use Rattle.std.specs.Prelude.{ℕ, ◌≡◌, ◌==◌, ◌&&◌, Bool, true, List, flat_map, find, Option, Some, Ok, slice_get}
 use Rattle.std.specs.Option.{option_map, option_map_or}
 use Rattle.std.specs.List.{list_all}

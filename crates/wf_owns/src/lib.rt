@@ -1,5 +1,11 @@
-//! What own updates are like, on every view that a part may have: in the ranges and orders of the format, at most 511
-//! transitions and 8,176 starts, and with values of their sorts. Laws as functions with nothing to do.
+//! What a unit's own update is like, on every view of its part, also on one that no run leads to.
+//!
+//! - Promises: it is in the ranges and orders that the format asks for, if its outers are at the
+//!   unit, with items from 1 on, and are at most 64. Its values, and those of views that take in
+//!   such updates, have their sorts. Each public function is a law and has nothing to do.
+//! - Doesn't say: that a run leads to the view.
+//! - A caller: the proofs of `wf_worlds` show by it that all that is sent can be spelled.
+//! - A change of a bound of the format shows here.
 #![tactic(auto)]
 
 mod laws;

@@ -1,4 +1,4 @@
--- Bits that are set, in lists that have one for each number from 0 on.
+-- Inner. Bits that are set, in lists that have one for each number from 0 on.
 use Rattle.std.specs.Prelude.{ℕ, ◌≡◌, ◌+◌, ◌||◌, ◌&&◌, ◌==◌, Bool, false, List, [], ◌∷◌, length, map, slice_index_or}
 use Rattle.std.specs.List.{range_with_len, list_any}
 use Rattle.wf_model.specs.declared.expr.Expr.{Expr}

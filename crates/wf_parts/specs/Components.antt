@@ -1,4 +1,5 @@
--- A chart cut into components: for each state, which transitions let it in and out, and for each transition, which block it.
+-- A chart cut into components.
+-- For each state, which transitions let it in and out; for each transition, which block it.
 use Rattle.std.specs.Prelude.{ℕ, ◌&&◌, ◌||◌, not, Bool, List, [], map, filter, slice_get, unwrap_or}
 use Rattle.std.specs.List.{list_any}
 use Rattle.wf_model.specs.declared.ids.TransId.{TransId}

@@ -1,4 +1,4 @@
--- Laws of components and parts, for every accepted chart.
+-- Of the laws. Components and parts of every accepted chart.
 use Rattle.std.specs.Prelude.{ℕ, ◌≡◌, ◌<◌, Bool, true, length, filter}
 use Rattle.wf_model.specs.declared.chart.Chart.{Chart}
 use Rattle.wf_model.specs.Tree.{all_transitions}

@@ -1,4 +1,4 @@
--- What an expression reads, by its last operator.
+-- Inner. What an expression reads, by its last operator.
 use Rattle.std.specs.Prelude.{◌≡◌, ◌||◌, ℕ, refl}
 use Rattle.wf_model.specs.declared.expr.Op.{Op}
 use Rattle.wf_model.specs.declared.expr.Expr.{Expr}

@@ -1,4 +1,5 @@
--- The grammar of expressions, a rule for each of its lines. A token that makes a node is counted before it is taken.
+-- The grammar of expressions, a rule for each of its lines.
+-- A token that makes a node is counted before it is taken.
 use Rattle.std.specs.Prelude.{ℕ, zero, suc, ◌==◌, Bool, true, false, if◌then◌else◌, length, Option, Some, None, Ok}
 use Rattle.wf_model.specs.Limits.{max_open}
 use Rattle.wf_model.specs.declared.ids.ActId.{ActId}

@@ -1,4 +1,4 @@
--- literal = true | false | [ - ] INT | TEXT
+-- The literals of a chart's text: literal = true | false | [ - ] INT | TEXT
 use Rattle.std.specs.Prelude.{true, false, Option, Some, None, pos, neg_ℤ}
 use Rattle.wf_model.specs.declared.value.Sort.{Sort}
 use Rattle.wf_model.specs.declared.value.Sort.TheVariants as sorts

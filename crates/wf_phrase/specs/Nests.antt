@@ -1,4 +1,5 @@
--- A function value that reads what stands in parentheses, where so many may still open.
+-- Inner. A function value that reads what stands in parentheses.
+-- Only so many more may open there.
 use Rattle.std.specs.Prelude.{ℕ, Result}
 use Rattle.std.specs.declared.alloc.Global.{Global}
 use denote.Ref.{MutBor}

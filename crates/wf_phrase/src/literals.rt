@@ -1,7 +1,8 @@
 //! Literals, and the words of sorts.
-ghost use Rattle.std.specs.Prelude.{◌≡◌, ◌≤◌, ◌^◌, pos, neg_ℤ};
-ghost use Rattle.wf_cursor.specs.Input.{ReadsExactly};
+ghost use Rattle.std.specs.Prelude.{◌≡◌, ◌≤◌, ◌^◌, pos, neg_ℤ, OnErr};
+ghost use Rattle.wf_cursor.specs.Input.{ReadsExactly, next};
 ghost use Rattle.wf_phrase.specs.Literals as spec;
+ghost use Rattle.wf_phrase.specs.Minus.{behind_minus};
 
 use wf_cursor::{Cursor, Piece, TextFault};
 use wf_model::{Sort, Val};
@@ -16,7 +17,8 @@ fn below_zero(number: u64) -> i64
 
 #[tactic(auto, unfolding(crate::specs::Literals::number))]
 fn number(cursor: &mut Cursor<'_>) -> Result<Val, TextFault>
-    ensures { ReadsExactly (spec.number cursor.old) result cursor.new }
+    ensures reads { ReadsExactly (spec.number cursor.old) result cursor.new }
+    ensures stays { OnErr result (cursor.new ≡ cursor.old) }
 {
     let number = cursor.int()?;
     Ok(Val::Int(number as i64))
@@ -24,7 +26,8 @@ fn number(cursor: &mut Cursor<'_>) -> Result<Val, TextFault>
 
 #[tactic(auto, unfolding(crate::specs::Literals::negated))]
 fn negated(cursor: &mut Cursor<'_>) -> Result<Val, TextFault>
-    ensures { ReadsExactly (spec.negated cursor.old) result cursor.new }
+    ensures reads { ReadsExactly (spec.negated cursor.old) result cursor.new }
+    ensures stays { OnErr result (cursor.new ≡ next cursor.old) }
 {
     cursor.take();
     let number = cursor.negated_int()?;
@@ -33,16 +36,19 @@ fn negated(cursor: &mut Cursor<'_>) -> Result<Val, TextFault>
 
 #[tactic(auto, unfolding(crate::specs::Literals::characters))]
 fn characters(cursor: &mut Cursor<'_>) -> Result<Val, TextFault>
-    ensures { ReadsExactly (spec.characters cursor.old) result cursor.new }
+    ensures reads { ReadsExactly (spec.characters cursor.old) result cursor.new }
+    ensures stays { OnErr result (cursor.new ≡ cursor.old) }
 {
     Ok(Val::Text(cursor.text()?))
 }
 
 /// Reads a literal: `true`, `false`, an Int, `-` and an Int, or a Text. An Int is at most 9223372036854775807, and
-/// behind `-` at most 9223372036854775808; a greater one is `Oversize`, and so is a Text of over 64 characters.
+/// behind `-` at most 9223372036854775808; a greater one is `Oversize`, and so is a Text of over 64 characters. At a
+/// fault the cursor stands as before, or behind the `-` if the next token was one. Takes no memory.
 #[tactic(auto, unfolding(crate::specs::Literals::literal))]
 pub fn literal(cursor: &mut Cursor<'_>) -> Result<Val, TextFault>
-    ensures { ReadsExactly (spec.literal cursor.old) result cursor.new }
+    ensures reads { ReadsExactly (spec.literal cursor.old) result cursor.new }
+    ensures stays { OnErr result (cursor.new ≡ behind_minus cursor.old) }
 {
     match cursor.peek() {
         Some(Piece::True) => {
@@ -71,10 +77,12 @@ fn sort_named(piece: Option<Piece>) -> Option<Sort>
     }
 }
 
-/// Reads the word of a sort: `bool`, `int` or `text`. Any other token is `Syntax`.
+/// Reads the word of a sort: `bool`, `int` or `text`. Any other token is `Syntax`, and leaves the cursor as it was. Takes
+/// no memory.
 #[tactic(auto, unfolding(crate::specs::Literals::sort))]
 pub fn sort(cursor: &mut Cursor<'_>) -> Result<Sort, TextFault>
-    ensures { ReadsExactly (spec.sort cursor.old) result cursor.new }
+    ensures reads { ReadsExactly (spec.sort cursor.old) result cursor.new }
+    ensures stays { OnErr result (cursor.new ≡ cursor.old) }
 {
     match sort_named(cursor.peek()) {
         Some(sort) => {

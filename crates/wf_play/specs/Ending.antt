@@ -1,4 +1,5 @@
--- The written text of a play's ending: which units were recovered, what each unit shows, and the merged list.
+-- Of other calls. The written text of a play's ending. No call cites it yet.
+-- Which units were recovered, what each unit shows, and the merged list.
 use Rattle.std.specs.Prelude.{ℕ, ◌++◌, List, [], ◌∷◌, flat_map}
 use Rattle.std.specs.List.{enumerate_from}
 use Rattle.std.specs.Fmt.{decimal}

@@ -1,4 +1,4 @@
--- The lines of a play: what the tokens of a line say, if they are in the grammar.
+-- Of other calls. The lines of a play: what the tokens of a line say.
 use Rattle.std.specs.Prelude.{ℕ, ◌==◌, List, [], ◌∷◌, Option, Some, None, if◌then◌else◌}
 use Rattle.std.specs.Option.{option_map}
 use Rattle.std.specs.Str.{bytes_eq}
@@ -11,9 +11,9 @@ use Rattle.wf_disk.specs.declared.arm.Outcome.TheVariants.{Keep, Lose, Torn}
 use Rattle.wf_disk.specs.declared.arm.Arm.{Arm}
 use Rattle.wf_disk.specs.declared.arm.Arm.TheVariants as arms
 use Rattle.wf_lex.specs.declared.token.Token.{Token}
-use Rattle.wf_audit.specs.Names.{Finder}
-use Rattle.wf_audit.specs.Values.{text_at, int_at}
-use Rattle.wf_audit.specs.Outers.{outer_of}
+use Rattle.wf_scripts.specs.Names.{Finder}
+use Rattle.wf_scripts.specs.Values.{text_at, int_at}
+use Rattle.wf_scripts.specs.Outers.{outer_of}
 use Rattle.wf_machine.specs.declared.line.Line.{Line}
 use Rattle.wf_machine.specs.declared.line.Line.TheVariants as lines
 

@@ -1,4 +1,4 @@
--- The written text of replies to the lines of a play.
+-- Of other calls. The written text of replies to the lines of a play.
 use Rattle.std.specs.Prelude.{ℕ, ◌==◌, ◌++◌, Bool, true, false, List, [], flat_map, Option, Some, None, if◌then◌else◌}
 use Rattle.std.specs.List.{enumerate_from, join_by}
 use Rattle.std.specs.Int.{bit_at}
@@ -9,8 +9,7 @@ use Rattle.wf_model.specs.declared.ids.ActId.{ActId}
 use Rattle.wf_model.specs.declared.update.UnitSet.{UnitSet}
 use Rattle.wf_model.specs.declared.chart.Chart.{Chart}
 use Rattle.wf_words.specs.Names.{act_name, unit_name}
-use Rattle.wf_audit.specs.Replies.{fault_text, step_text, states_text, vars_text}
-use Rattle.wf_audit.specs.Replies as central
+use Rattle.wf_audit.specs.Replies.{fault_text, shown_text}
 use Rattle.wf_machine.specs.declared.reply.Sight.{Sight}
 use Rattle.wf_machine.specs.declared.reply.TurnReply.{TurnReply}
 use Rattle.wf_machine.specs.declared.reply.TurnReply.TheVariants as turns
@@ -21,8 +20,7 @@ use Rattle.wf_machine.specs.declared.reply.Reply.TheVariants as reply
 
 -- what a unit shows: its states that are in, and the variables that it knows
 abbrev pub sight_text : Chart → Sight → List ℕ
-sight_text chart sight =
-    codes "after " ++ decimal sight.taken ++ codes " in" ++ states_text chart sight.states ++ codes " vars" ++ vars_text chart sight.vars
+sight_text chart sight = shown_text chart sight.taken sight.states sight.vars
 
 -- ` taken K`
 unfoldable pub taken_text : ℕ → List ℕ
@@ -88,10 +86,7 @@ round_text chart replies = codes "round " ++ join_by (unit_turn_text chart) (cod
 
 -- the text of a reply
 unfoldable pub reply_text : Chart → Reply → List ℕ
-reply_text chart reply.Ok = codes "ok"
 reply_text chart (reply.Refused fault) = fault_text fault
-reply_text chart (reply.Stepped step notes) = step_text chart step notes
-reply_text chart (reply.Central taken states vars raised) = central.sight_text chart taken states vars raised
 reply_text chart (reply.New n) = codes "new " ++ decimal n
 reply_text chart (reply.Again n) = codes "again " ++ decimal n
 reply_text chart (reply.Reused n) = codes "reused " ++ decimal n

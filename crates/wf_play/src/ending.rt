@@ -39,21 +39,31 @@ fn append_recoveries(
 }
 
 // The line of what a unit shows.
-fn append_unit(text: &mut Bytes, chart: &Chart, sight: &Sight) -> Result<(), NoMemory>
+fn append_unit(
+    alloc: Global,
+    text: &mut Bytes,
+    chart: &Chart,
+    sight: &Sight,
+) -> Result<(), NoMemory>
     ensures { OnOk result (text.new ≡ text.old ++ spec.unit_line chart.now sight.now) }
 {
     text.append(unit_name(chart, sight.unit))?;
     append_admitted(text, sight.admitted)?;
     text.append(b" ")?;
-    append_sight(text, chart, sight)?;
+    append_sight(alloc, text, chart, sight)?;
     text.append(b"\n")
 }
 
-fn append_units(text: &mut Bytes, chart: &Chart, sights: &[Sight]) -> Result<(), NoMemory>
+fn append_units(
+    alloc: Global,
+    text: &mut Bytes,
+    chart: &Chart,
+    sights: &[Sight],
+) -> Result<(), NoMemory>
     ensures { OnOk result (text.new ≡ text.old ++ flat_map (spec.unit_line chart.now) sights.now) }
 {
     for sight in sights {
-        append_unit(text, chart, sight)?;
+        append_unit(alloc, text, chart, sight)?;
     }
     Ok(())
 }
@@ -112,7 +122,7 @@ fn ending_text(alloc: Global, chart: &Chart, ending: &Ending) -> Result<Bytes, N
     let mut text = List::new(alloc);
     text.append(b"end\n")?;
     append_recoveries(&mut text, chart, ending.recovered.as_slice())?;
-    append_units(&mut text, chart, ending.sights.as_slice())?;
+    append_units(alloc, &mut text, chart, ending.sights.as_slice())?;
     append_steps(&mut text, chart, ending.merged.as_slice())?;
     Ok(text)
 }

@@ -3,16 +3,16 @@ ghost use Rattle.std.specs.Prelude.{◌≡◌, ◌≤◌, ◌<◌, IfOk, IfSome}
 ghost use Rattle.std.specs.Option.{option_map};
 ghost use Rattle.wf_disk.specs.declared.arm.Arm.TheVariants as arms;
 ghost use Rattle.wf_machine.specs.declared.line.Line.TheVariants as lines;
-ghost use Rattle.wf_audit.specs.Finders.{finder_of};
+ghost use Rattle.wf_scripts.specs.Finders.{finder_of};
 ghost use Rattle.wf_play.specs.Lines as spec;
 
 use std::alloc::Global;
-use wf_audit::{Names, int_at, outer_of, text_at};
 use wf_disk::{Arm, Outcome};
 use wf_lex::Token;
 use wf_machine::Line;
 use wf_model::limits::MAX_INT;
 use wf_model::{NoMemory, Outer, UnitId};
+use wf_scripts::{Grammar, Names, int_at, outer_of, text_at};
 
 // How many strokes ahead an arm may be set.
 const MAX_STROKE: u64 = 1000;
@@ -215,23 +215,31 @@ fn more_words(
     }
 }
 
-/// What a line of these tokens says, if it is in the grammar. Linear in the tokens.
-#[tactic(auto, unfolding(crate::specs::Lines::said_by))]
-pub fn said_by(
-    alloc: Global,
-    names: &Names,
-    line: &[u8],
-    tokens: &[Token],
-) -> Result<Option<Option<Line>>, NoMemory>
-    ensures { IfOk result (λ said. said ≡ spec.said_by (finder_of names.now) line.now tokens.now) }
-{
-    match tokens {
-        [] => Ok(Some(None)),
-        [word] => Ok(command(text_at(line, word)).map(Some)),
-        [word, other] => Ok(two_words(names, line, word, other).map(Some)),
-        [word, unit, other] => Ok(three_words(names, line, word, unit, other).map(Some)),
-        [word, unit, number, kind, tokens @ ..] => {
-            Ok(more_words(alloc, names, line, word, unit, number, kind, tokens)?.map(Some))
+/// The lines of a script of a play.
+pub struct PlayLines;
+
+impl Grammar for PlayLines {
+    type Line = Line;
+
+    ghost use Rattle.wf_play.specs.Lines.{said_by};
+
+    ghost says = { said_by };
+
+    #[tactic(auto, unfolding(crate::specs::Lines::said_by))]
+    fn said_by(
+        alloc: Global,
+        names: &Names,
+        line: &[u8],
+        tokens: &[Token],
+    ) -> Result<Option<Option<Line>>, NoMemory> {
+        match tokens {
+            [] => Ok(Some(None)),
+            [word] => Ok(command(text_at(line, word)).map(Some)),
+            [word, other] => Ok(two_words(names, line, word, other).map(Some)),
+            [word, unit, other] => Ok(three_words(names, line, word, unit, other).map(Some)),
+            [word, unit, number, kind, tokens @ ..] => {
+                Ok(more_words(alloc, names, line, word, unit, number, kind, tokens)?.map(Some))
+            }
         }
     }
 }

@@ -10,9 +10,7 @@ ghost use Rattle.wf_audit.specs.Replies.{numbered};
 ghost use Rattle.wf_play.specs.Replies as spec;
 
 use std::alloc::Global;
-use wf_audit::{
-    append_fault, append_sight as append_central_sight, append_states, append_step, append_vars,
-};
+use wf_audit::{append_fault, append_shown};
 use wf_machine::{Reply, Sight, TurnReply};
 use wf_model::{ActId, Bytes, Chart, Checked, List, NoMemory, UnitSet};
 use wf_words::{act_name, append_number};
@@ -24,14 +22,22 @@ fn append_counted(text: &mut Bytes, words: &[u8], number: u64) -> Result<(), NoM
     append_number(text, number)
 }
 
-pub(crate) fn append_sight(text: &mut Bytes, chart: &Chart, sight: &Sight) -> Result<(), NoMemory>
+pub(crate) fn append_sight(
+    alloc: Global,
+    text: &mut Bytes,
+    chart: &Chart,
+    sight: &Sight,
+) -> Result<(), NoMemory>
     ensures { OnOk result (text.new ≡ text.old ++ spec.sight_text chart.now sight.now) }
 {
-    append_counted(text, b"after ", sight.taken.into())?;
-    text.append(b" in")?;
-    append_states(text, chart, sight.states.as_slice())?;
-    text.append(b" vars")?;
-    append_vars(text, chart, sight.vars.as_slice())
+    append_shown(
+        alloc,
+        text,
+        chart,
+        sight.taken,
+        sight.states.as_slice(),
+        sight.vars.as_slice(),
+    )
 }
 
 #[tactic(auto, unfolding(crate::specs::Replies::taken_text))]
@@ -193,26 +199,16 @@ fn append_round(text: &mut Bytes, chart: &Chart, turns: &[TurnReply]) -> Result<
 }
 
 #[tactic(auto, unfolding(crate::specs::Replies::reply_text))]
-fn append_text(text: &mut Bytes, chart: &Chart, reply: &Reply) -> Result<(), NoMemory>
+fn append_text(
+    alloc: Global,
+    text: &mut Bytes,
+    chart: &Chart,
+    reply: &Reply,
+) -> Result<(), NoMemory>
     ensures { OnOk result (text.new ≡ text.old ++ spec.reply_text chart.now reply.now) }
 {
     match reply {
-        Reply::Ok => text.append(b"ok"),
         Reply::Refused(fault) => append_fault(text, *fault),
-        Reply::Stepped { step, notes } => append_step(text, chart, *step, notes),
-        Reply::Central {
-            taken,
-            states,
-            vars,
-            raised,
-        } => append_central_sight(
-            text,
-            chart,
-            *taken,
-            states.as_slice(),
-            vars.as_slice(),
-            raised.as_slice(),
-        ),
         Reply::New(number) => append_counted(text, b"new ", *number),
         Reply::Again(number) => append_counted(text, b"again ", *number),
         Reply::Reused(number) => append_counted(text, b"reused ", *number),
@@ -229,7 +225,7 @@ fn append_text(text: &mut Bytes, chart: &Chart, reply: &Reply) -> Result<(), NoM
         Reply::Armed => text.append(b"armed"),
         Reply::Recovered { taken, admitted } => append_recovered(text, *taken, *admitted),
         Reply::Items(items) => append_items(text, chart, items.as_slice()),
-        Reply::Shown(sight) => append_sight(text, chart, sight),
+        Reply::Shown(sight) => append_sight(alloc, text, chart, sight),
         Reply::Round(turns) => append_round(text, chart, turns.as_slice()),
     }
 }
@@ -242,7 +238,7 @@ fn reply_line(alloc: Global, chart: &Chart, number: u32, reply: &Reply) -> Resul
     let mut text = List::new(alloc);
     append_number(&mut text, number.into())?;
     text.append(b": ")?;
-    append_text(&mut text, chart, reply)?;
+    append_text(alloc, &mut text, chart, reply)?;
     text.push(b'\n')?;
     Ok(text)
 }

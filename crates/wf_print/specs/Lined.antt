@@ -1,4 +1,4 @@
--- Texts in lines.
+-- Of the laws. Texts in lines.
 use Rattle.std.specs.Prelude.{ℕ, ◌==◌, ◌&&◌, not, Bool, true, false, List, [], ◌∷◌, nat_le, if◌then◌else◌, IsTrue}
 use Rattle.std.specs.List.{list_all}
 use Rattle.wf_model.specs.declared.value.Val.{Val}

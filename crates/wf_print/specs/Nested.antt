@@ -1,4 +1,4 @@
--- How the text of states reads with no bound on their levels.
+-- Of the laws. How the text of states reads with no bound on their levels.
 use Rattle.std.specs.Prelude.{◌≡◌, ℕ, ◌-◌, ◌==◌, ◌++◌, List, length, flat_map, slice_get, Some}
 use Rattle.wf_model.specs.Limits.{max_depth}
 use Rattle.wf_model.specs.declared.chart.Chart.{Chart}

@@ -1,4 +1,4 @@
--- The lines of transitions.
+-- Of other calls. The lines of transitions.
 use Rattle.std.specs.Prelude.{ℕ, ◌++◌, List, Option}
 use lib.Chars.{codes}
 use Rattle.wf_model.specs.declared.ids.EventId.{EventId}

@@ -1,4 +1,11 @@
-//! The canonical text of a chart.
+//! The canonical text of an accepted chart.
+//!
+//! - Promises: `print_chart` answers the text that the definition `chart_text` gives, or runs out
+//!   of memory. Laws say, if its texts are of text characters, that it is printable, that each line
+//!   ends with LF, and that none is empty or begins with `-`.
+//! - Doesn't say: what the text means; that is `wf_readback`.
+//! - A caller: `wf_calls` prints charts that it has read. No command does.
+//! - A change of the canonical text begins in the definition of the line.
 #![tactic(auto)]
 
 mod chart;

@@ -32,3 +32,4 @@ pub mod Operators
 pub mod Short
 pub mod Whole
 pub mod Spelled
+pub mod Lined

@@ -1,4 +1,4 @@
--- Literals as a program holds them.
+-- Of the laws. Literals as a program holds them.
 use Rattle.std.specs.Prelude.{Bool, true, ◌&&◌, nat_le, length}
 use Rattle.std.specs.List.{list_all}
 use Rattle.wf_model.specs.Limits.{max_text}

@@ -1,4 +1,4 @@
--- The canonical text of a chart is read back.
+-- Of the laws. The canonical text of a chart is read back.
 use Rattle.std.specs.Prelude.{◌≡◌, ◌≤◌, ◌↔◌, ℕ, List, length, Ok, IsTrue}
 use Rattle.wf_model.specs.Limits.{max_tokens}
 use Rattle.wf_model.specs.declared.chart.Chart.{Chart}

@@ -1,4 +1,4 @@
--- The texts of a chart by the grammar, with no bound on their tokens.
+-- Of the laws. The texts of a chart by the grammar, with no bound on their tokens.
 use Rattle.std.specs.Prelude.{ℕ, List, map}
 use Rattle.wf_model.specs.declared.chart.Chart.{Chart}
 use Rattle.wf_lex.specs.declared.token.Token.{Token}

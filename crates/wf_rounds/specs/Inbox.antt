@@ -1,4 +1,5 @@
--- The updates of one peer as they come in, by their steps alone. A node keeps those of its next two steps.
+-- Of the laws. The updates of one peer as they come in, by their steps alone.
+-- A node keeps those of its next two steps.
 use Rattle.std.specs.Prelude.{◌≡◌, ◌⊎◌, ℕ, ◌+◌, ◌<◌, ◌≤◌, Bool, true, false, List, [], ◌∷◌}
 
 -- how many steps the node took, and whether it holds the peer's updates of the next step and of the one after it

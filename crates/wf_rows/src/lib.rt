@@ -1,4 +1,11 @@
-//! Worked inputs over the top call, with ends in memory that fail: what each run writes, and how it ends.
+//! Tests: worked inputs over the top call, with ends in memory that fail.
+//!
+//! - Tries: which bytes a run writes, and with which status it ends, also if a read or a write
+//!   fails.
+//! - Promises: nothing. No crate depends on it.
+//! - Doesn't try: what the built program writes; `scripts/rows` does.
+//! - A caller: the gate runs its tests.
+//! - A change begins here if a run is to be tried with ends that fail.
 #![tactic(auto)]
 
 #[cfg(test)]

@@ -1,4 +1,4 @@
--- The completions of items over a list of steps.
+-- Of the laws. The completions of items over a list of steps.
 use Rattle.std.specs.Prelude.{ℕ, ◌==◌, ◌&&◌, ◌||◌, not, Bool, List, length, filter, flat_map}
 use Rattle.std.specs.List.{list_any, range_with_len}
 use Rattle.wf_model.specs.declared.chart.Chart.{Chart}

@@ -1,4 +1,4 @@
--- Laws of the central run, for every chart and every list of steps.
+-- Of the laws. The central run of every chart, over every list of steps.
 use Rattle.std.specs.Prelude.{ℕ, ◌≡◌, ◌<◌, ◌≤◌, ◌+◌, ◌++◌, ◌||◌, nat_lt, true, false, List, [], ◌∷◌, length, map, Some, is_ok}
 use Rattle.std.specs.Option.{option_map, option_map_or}
 use Rattle.std.specs.List.{range_with_len, zip, list_all}

@@ -1,4 +1,4 @@
--- Runs: lists of steps, each with entries that may come.
+-- Of the laws. Runs: lists of steps, each with entries that may come.
 use Rattle.std.specs.Prelude.{◌≡◌, true, List, [], ◌∷◌, ⊤}
 use Rattle.wf_model.specs.declared.chart.Chart.{Chart}
 use Rattle.wf_model.specs.declared.outer.Entry.{Entry}

@@ -1,4 +1,4 @@
--- When two states see the same, each with the entries that come to it.
+-- Of the laws. When two states see the same, each with the entries that come to it.
 use Rattle.std.specs.Prelude.{◌≡◌, ℕ, List}
 use Rattle.wf_model.specs.declared.chart.Chart.{Chart}
 use Rattle.wf_model.specs.declared.outer.Entry.{Entry}

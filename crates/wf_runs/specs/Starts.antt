@@ -1,4 +1,4 @@
--- The starts of a unit over a list of steps, and their numbers.
+-- Of the laws. The starts of a unit over a list of steps, and their numbers.
 use Rattle.std.specs.Prelude.{ℕ, zero, suc, ◌+◌, ◌==◌, ◌&&◌, ◌||◌, ◌++◌, nat_lt, Bool, false, List, [], ◌∷◌, map, filter, Option, Some, None, slice_get}
 use Rattle.wf_model.specs.declared.ids.ActId.{ActId}
 use Rattle.wf_model.specs.declared.chart.Chart.{Chart}

@@ -1,4 +1,4 @@
--- Laws of configurations, entry trees and the walk. Each holds of every accepted chart.
+-- Of the laws. Configurations, entry trees and the walk of every accepted chart.
 use Rattle.std.specs.Prelude.{ℕ, ◌≡◌, ◌<◌, ◌||◌, ◌&&◌, ◌⊎◌, not, Bool, true, List, length, filter, Some}
 use Rattle.std.specs.List.{list_any}
 use Rattle.wf_model.specs.declared.chart.Chart.{Chart}

@@ -1,4 +1,4 @@
--- Choices of active children.
+-- Of the laws. Choices of active children.
 use Rattle.std.specs.Prelude.{ℕ, ◌≡◌, ◌==◌, Bool, true, false, Some}
 use Rattle.wf_model.specs.declared.chart.Kind.{Kind}
 use Rattle.wf_model.specs.declared.chart.Kind.TheVariants.{Basic, Or, And}

@@ -1,5 +1,13 @@
-//! What a chart does: configurations, default and entry trees, the walk, effects, items, the central run. Definitions and
-//! their laws; each public function is a law and has nothing to do.
+//! What a chart does, as definitions: which states are in, which transitions fire, what a step
+//! writes, raises and starts, what a unit may admit, and the central run, step by step.
+//!
+//! - Promises: each public function is a law of these definitions and has nothing to do. For every
+//!   accepted chart a step leads from a configuration to a configuration, and what fires in a run
+//!   are the enabled transitions that no enabled one blocks.
+//! - Doesn't say: that anything fires.
+//! - A caller: `wf_central::CentralState::step` promises the `next_state` of `specs/Run.antt`.
+//! - A change of a rule of the step begins here, in the file of that rule. The laws then tell what
+//!   else has to change.
 #![tactic(auto)]
 
 mod laws;

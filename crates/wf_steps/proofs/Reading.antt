@@ -1,8 +1,9 @@
 -- What the frames of a journal make of a history, one more at a time.
 use Rattle.std.proofs.Common.{◌≡◌, ℕ, zero, suc, ◌+◌, ◌==◌, ◌&&◌, cond, Bool, true, false, List, [], ◌∷◌, map, drop, length, Option, Some, None, Result, Ok, Err, refl, sym, ap, ap₂, ◌∙◌, subst, arith}
 use Rattle.std.specs.Prelude.{MatchResult}
-use Rattle.wf_journal.specs.Frames.{Frame, open_gate, header, number_of, fits, frames_after, end_after, frames_from, end_of, bodies_of, frames_at}
+use Rattle.wf_journal.specs.Frames.{Frame, open_gate, header, number_of, fits, frames_after, frames_from, end_of, bodies_of, frames_at}
 use Rattle.wf_journal.specs.Journal.{IsPlace, IsRead}
+use Rattle.wf_journal.proofs.Ends.{end_after, end_from-walk}
 use Rattle.wf_parts.specs.declared.data.PartData.{PartData}
 use Rattle.wf_codec.specs.Records.{record_of}
 use Rattle.wf_histories.specs.Histories.{History}
@@ -31,7 +32,7 @@ none_after at (g ∷ (a ∷ (b ∷ (c ∷ (d ∷ rest))))) e = go ((g == open_ga
     go false q = refl
 
 no_frames : (file : List ℕ) (place : ℕ) → IsPlace file place → place ≡ end_of file → frames_from file place ≡ []
-no_frames file place is ends = none_after place (drop place file) (let q = is.end in omega (arith, ends, q))
+no_frames file place is ends = none_after place (drop place file) (let q = is.end in omega (arith, ends, q, end_from-walk file place))
 
 pub rest_end : (part : PartData) (file : List ℕ) (place : ℕ) (h : History) → IsPlace file place → place ≡ end_of file → read_on part (bodies file place) place h ≡ Ok h
 rest_end part file place h is ends = ap (λ (fs : List Frame). read_on part (map (λ (frame : Frame). frame.body) fs) place h) (no_frames file place is ends)

@@ -1,4 +1,4 @@
--- Why a record isn't taken.
+-- Inner. Why a record isn't taken.
 use Rattle.wf_codec.specs.declared.fault.RecordFault.{RecordFault}
 use Rattle.wf_codec.specs.declared.fault.RecordFault.TheVariants as records
 use Rattle.wf_steps.specs.declared.following.Unfollowed.{Unfollowed}

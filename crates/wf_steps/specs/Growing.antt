@@ -1,4 +1,4 @@
--- Which admissions and Turns may follow, and the histories that they make.
+-- Of other calls. Which admissions and Turns may follow, and the histories that they make.
 use Rattle.std.specs.Prelude.{ℕ, suc, ◌≡◌, ◌+◌, ◌<◌, ◌==◌, true, List, min, position, Option, None, is_ok}
 use Rattle.std.specs.List.{AllByRecursion}
 use Rattle.wf_model.specs.Limits.{max_steps, max_sealed}

@@ -1,4 +1,4 @@
--- A unit's items by its own history.
+-- Of other calls. A unit's items by its own history.
 use Rattle.std.specs.Prelude.{ℕ, zero, suc, ◌==◌, Bool, List, [], ◌∷◌, ◌++◌, map, filter, insert}
 use Rattle.std.specs.List.{list_any}
 use Rattle.wf_model.specs.declared.ids.ActId.{ActId}

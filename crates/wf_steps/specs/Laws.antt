@@ -1,4 +1,4 @@
--- Laws of histories that records make.
+-- Of the laws. Laws of histories that records make.
 use Rattle.std.specs.Prelude.{ℕ, suc, ◌≡◌, ◌+◌, ◌<◌, ◌≤◌, List, length}
 use Rattle.wf_model.specs.Limits.{max_steps, max_units}
 use Rattle.wf_model.specs.declared.update.Update.{Update}

@@ -1,4 +1,4 @@
--- What the records of a journal make of a history.
+-- Of other calls. What the records of a journal make of a history.
 use Rattle.std.specs.Prelude.{ℕ, ◌+◌, ◌==◌, ◌&&◌, not, nat_lt, Bool, List, [], ◌∷◌, length, slice_index, Option, Some, None, Result, Ok, Err, is_ok, is_some, if◌then◌else◌, option_and_then}
 use Rattle.std.specs.Str.{bytes_eq}
 use Rattle.wf_model.specs.Limits.{max_steps}

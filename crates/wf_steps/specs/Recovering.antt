@@ -1,4 +1,4 @@
--- What a recovery answers.
+-- Of other calls. What a recovery answers.
 use Rattle.std.specs.Prelude.{ℕ, ◌≡◌, List, [], Option, Some, None, Result, Ok, Err, MatchResult, map}
 use Rattle.wf_disk.specs.Disk.{Told}
 use Rattle.wf_journal.specs.declared.fault.ReadFault.{ReadFault}

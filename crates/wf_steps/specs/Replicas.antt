@@ -1,4 +1,4 @@
--- What a unit keeps of its history without a disk.
+-- Inner. What a unit keeps of its history without a disk.
 use Rattle.std.specs.Prelude.{ℕ, suc, ◌≡◌, ◌+◌, List, Option, sum, insert, IsTrue}
 use Rattle.wf_model.specs.declared.ids.ActId.{ActId}
 use Rattle.wf_model.specs.declared.outer.Outer.{Outer}

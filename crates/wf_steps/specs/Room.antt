@@ -1,4 +1,4 @@
--- What contracts see of a history that is held, and of a unit without its disk.
+-- Of other calls. What contracts see of a history that is held, and of a unit without its disk.
 use Rattle.std.specs.Prelude.{ℕ}
 use Rattle.wf_parts.specs.declared.data.PartData.{PartData}
 use Rattle.wf_histories.specs.Histories.{History}

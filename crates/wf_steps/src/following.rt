@@ -45,7 +45,7 @@ impl From<NoMemory> for Unfollowed {
     }
 }
 
-/// Takes a record, if it follows those before it. `Misfit` comes exactly where it doesn't, and then all is as before.
+/// Takes a record, if it follows those before it. `Misfit` comes exactly if it doesn't.
 #[tactic(auto, unfolding(crate::specs::Records::after))]
 pub fn follow(alloc: Global, replica: &mut Replica, entry: JournalRecord) -> Result<(), Unfollowed>
     requires { IsRecordInRange entry }
@@ -118,7 +118,7 @@ fn follow_turn(
     Ok(())
 }
 
-/// Takes the record that has this body, if it is one and follows those before it. `Misfit` comes exactly where it isn't or doesn't.
+/// Takes the record that has this body, if it is one and follows those before it. `Misfit` comes exactly if it is none or doesn't follow.
 pub fn take_body(alloc: Global, replica: &mut Replica, body: &[u8]) -> Result<(), Unfollowed>
     ensures part { replica.new.part ≡ replica.old.part }
     ensures ok { OnOk result (after_body replica.old.part replica.old.past body.now ≡ Some replica.new.past) }

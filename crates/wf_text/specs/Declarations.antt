@@ -1,4 +1,6 @@
--- decl = unit NAME ; | event NAME [ at UNIT ] ; | var NAME : SORT = literal ; | activity NAME at UNIT [ gives VAR { , VAR } ] ;
+-- The rules of declarations.
+-- decl = unit NAME ; | event NAME [ at UNIT ] ; | var NAME : SORT = literal ;
+--      | activity NAME at UNIT [ gives VAR { , VAR } ] ;
 use Rattle.std.specs.Prelude.{ℕ, zero, suc, Bool, true, false, if◌then◌else◌, List, [], ◌∷◌, ◌++◌, length, Option, Some, None}
 use Rattle.wf_model.specs.declared.ids.UnitId.{UnitId}
 use Rattle.wf_model.specs.declared.ids.VarId.{VarId}

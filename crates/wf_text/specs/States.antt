@@ -1,4 +1,4 @@
--- state = ( basic | or | and ) NAME at UNIT ( ; | "{" { state } "}" )
+-- The rules of states: state = ( basic | or | and ) NAME at UNIT ( ; | "{" { state } "}" )
 use Rattle.std.specs.Prelude.{ℕ, zero, suc, if◌then◌else◌, length, Option, Some, None}
 use Rattle.wf_model.specs.Limits.{max_open}
 use Rattle.wf_model.specs.declared.ids.StateId.{StateId}

@@ -1,4 +1,4 @@
--- chart = chart NAME ; { decl } [ state ] { trans }
+-- The rule of a chart's text: chart = chart NAME ; { decl } [ state ] { trans }
 use Rattle.std.specs.Prelude.{◌≡◌, ℕ, if◌then◌else◌, nat_lt, List, [], length, Result, Ok, Err}
 use Rattle.wf_model.specs.declared.chart.Chart.{Chart}
 use Rattle.wf_model.specs.declared.chart.Transition.{Transition}

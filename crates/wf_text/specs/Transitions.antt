@@ -1,3 +1,4 @@
+-- The rules of transitions.
 -- trans = from STATE to STATE [ on EVENT ] [ if expr ] [ do action { , action } ] ;
 use Rattle.std.specs.Prelude.{ℕ, zero, suc, if◌then◌else◌, List, [], ◌∷◌, ◌++◌, length, Option, Some, None}
 use Rattle.wf_model.specs.declared.ids.EventId.{EventId}

@@ -11,13 +11,14 @@ use Rattle.wf_model.specs.declared.chart.Chart.{Chart}
 use Rattle.wf_refusals.specs.Lines.{refusal}
 use Rattle.wf_refusals.specs.Scripts.{too_many_lines, too_long_report}
 use Rattle.wf_audit.specs.declared.script.CentralLine.{CentralLine}
-use Rattle.wf_audit.specs.declared.script.ScriptFault.{ScriptFault}
-use Rattle.wf_audit.specs.declared.script.ScriptFault.TheVariants as script
-use Rattle.wf_audit.specs.Lines.{lines_of, chart_part, script_part}
+use Rattle.wf_scripts.specs.declared.script.ScriptFault.{ScriptFault}
+use Rattle.wf_scripts.specs.declared.script.ScriptFault.TheVariants as script
+use Rattle.wf_scripts.specs.Lines.{lines_of, chart_part, script_part}
 use Rattle.wf_audit.specs.Script.{script_of}
 use Rattle.wf_audit.specs.CentralText.{central_text}
 use Rattle.wf_partition.specs.SplitText.{split_text}
-use Rattle.wf_audit.proofs.Counted.{IsNamed, script_named}
+use Rattle.wf_scripts.proofs.Counted.{IsNamed}
+use Rattle.wf_audit.proofs.Scripts.{script_named}
 use Rattle.wf_top.specs.declared.command.Command.{Command}
 use Rattle.wf_top.specs.declared.command.Command.TheVariants.{Check, Central, Split}
 use Rattle.wf_top.specs.declared.answer.Answer.{Answer}

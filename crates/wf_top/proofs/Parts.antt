@@ -1,6 +1,6 @@
 -- The parts of an input are no longer than the input.
 use Rattle.std.proofs.Common.{◌≤◌, ◌==◌, ◌&&◌, ℕ, ◌+◌, suc, Bool, true, false, cond, List, [], ◌∷◌, length, arith, length-drop}
-use Rattle.wf_audit.specs.Lines.{first_line, behind_line, is_divider, before_divider, behind_divider, chart_part, script_part}
+use Rattle.wf_scripts.specs.Lines.{first_line, behind_line, is_divider, before_divider, behind_divider, chart_part, script_part}
 
 before_short : (begins : Bool) (bytes : List ℕ) → length (before_divider begins bytes) ≤ length bytes
 before_short begins [] = omega arith

@@ -16,9 +16,9 @@ use Rattle.wf_refusals.specs.CheckFaults.{check_fault_line}
 use Rattle.wf_refusals.specs.Accepted.{accepted_line}
 use Rattle.wf_refusals.specs.Scripts.{script_line, too_many_lines, too_long_report}
 use Rattle.wf_audit.specs.declared.script.CentralLine.{CentralLine}
-use Rattle.wf_audit.specs.declared.script.ScriptFault.{ScriptFault}
-use Rattle.wf_audit.specs.declared.script.ScriptFault.TheVariants as script
-use Rattle.wf_audit.specs.Lines.{lines_of, chart_part, script_part}
+use Rattle.wf_scripts.specs.declared.script.ScriptFault.{ScriptFault}
+use Rattle.wf_scripts.specs.declared.script.ScriptFault.TheVariants as script
+use Rattle.wf_scripts.specs.Lines.{lines_of, chart_part, script_part}
 use Rattle.wf_audit.specs.Script.{script_of}
 use Rattle.wf_audit.specs.CentralText.{central_text}
 use Rattle.wf_partition.specs.SplitText.{split_text}

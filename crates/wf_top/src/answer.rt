@@ -9,9 +9,9 @@ use crate::charts::chart_in;
 use crate::command::Command;
 use crate::split::split;
 use std::alloc::Global;
-use wf_audit::divide;
 use wf_model::{Bytes, Checked, NoMemory, Status};
 use wf_refusals::accepted_line;
+use wf_scripts::divide;
 
 /// How a run ends, and what it writes.
 #[derive(Drop)]

@@ -1,17 +1,18 @@
 //! The command `central`.
 ghost use Rattle.std.specs.Prelude.{◌≡◌, ◌≤◌, length, IfOk};
 ghost use Rattle.wf_audit.specs.CentralText.{central_text};
-ghost use Rattle.wf_audit.specs.Lines.{lines_of};
+ghost use Rattle.wf_scripts.specs.Lines.{lines_of};
 ghost use Rattle.wf_audit.specs.Script.{script_of};
 ghost use Rattle.wf_top.specs.Answers as spec;
 ghost use Rattle.wf_model.specs.Limits.{max_input, max_lines};
 
 use crate::answer::Answer;
 use std::alloc::Global;
-use wf_audit::{CentralLine, RunFault, ScriptFault, line_count, read_central, run_central};
+use wf_audit::{CentralLine, RunFault, read_central, run_central};
 use wf_model::limits::MAX_LINES;
 use wf_model::{Checked, NoMemory, Status};
 use wf_refusals::{script_line, too_long_report, too_many_lines};
+use wf_scripts::{ScriptFault, line_count};
 
 // The answer of a run of these lines.
 fn run(alloc: Global, chart: &Checked, lines: &[(u32, CentralLine)]) -> Result<Answer, NoMemory>

@@ -5,19 +5,19 @@ ghost use Rattle.wf_check.specs.FirstFault.{first_fault};
 ghost use Rattle.wf_top.specs.Answers as spec;
 
 use std::alloc::Global;
-use wf_check::first_fault;
+use wf_check::judge;
 use wf_model::{Bytes, Chart, Checked, NoMemory};
 use wf_refusals::{check_fault_line, text_fault_line};
 use wf_text::{ChartFault, read_chart};
 
 // The chart, sealed, or the line of its first fault.
-#[tactic(auto, using(wf_check::proofs::Faultless::faultless))]
+#[tactic(auto, unfolding(wf_check::specs::Judged::judged_of))]
 fn checked(alloc: Global, chart: Chart) -> Result<Result<Checked, Bytes>, NoMemory>
     ensures { IfOk result (λ found. found ≡ spec.chart_by chart (first_fault chart)) }
 {
-    match first_fault(alloc, &chart)? {
-        None => Ok(Ok(Checked::seal(chart))),
-        Some(fault) => Ok(Err(check_fault_line(alloc, &chart, fault)?)),
+    match judge(alloc, chart)? {
+        Ok(checked) => Ok(Ok(checked)),
+        Err((chart, fault)) => Ok(Err(check_fault_line(alloc, &chart, fault)?)),
     }
 }
 

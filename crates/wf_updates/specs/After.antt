@@ -1,4 +1,4 @@
--- The lists of a view after a step, and the same by tables.
+-- Inner. The lists of a view after a step, and the same by tables.
 use Rattle.std.specs.Prelude.{ℕ, ◌+◌, ◌-◌, ◌==◌, Bool, List, None, Option, map, filter, filter_map, slice_index, slice_index_or, unwrap_or}
 use Rattle.std.specs.Option.{option_map_or}
 use Rattle.std.specs.List.{list_any}

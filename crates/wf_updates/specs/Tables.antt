@@ -1,4 +1,4 @@
--- What tables by number tell.
+-- Of other calls. What tables by number tell.
 use Rattle.std.specs.Prelude.{ℕ, ◌+◌, ◌==◌, Bool, List, [], ◌∷◌, length, filter, find, max, fold, Option, Some, None, if◌then◌else◌, slice_index_or}
 use Rattle.std.specs.Option.{option_map, option_map_or}
 use Rattle.std.specs.List.{list_any}

@@ -1,5 +1,12 @@
-//! Views and updates: what a unit knows between its steps, how it takes in the updates of all units, and what of its own
-//! update each peer is sent.
+//! Views that are held in memory, and what a peer is sent of an update.
+//!
+//! - Promises: `View::first` is the first view of the unit's part. `absorb` takes in a step exactly
+//!   as the definition says, or runs out of memory and leaves the view as it was. `relevant`
+//!   answers what a peer is sent of an update.
+//! - Doesn't say: that it finds memory. `absorb` asks that no count passes 32 bits.
+//! - A caller: none; no command makes a view.
+//! - A change begins here if a step is to be taken in in another way. What it does is defined in
+//!   `wf_views`.
 #![tactic(auto)]
 
 mod after;

@@ -1,4 +1,5 @@
--- The grammar of charts over pieces alone: any name stands for any name, whatever is declared, and sizes are free.
+-- Of the laws. The grammar of charts over pieces alone.
+-- Any name stands for any name, whatever is declared, and sizes are free.
 use Rattle.std.specs.Prelude.{List, [], ◌∷◌, ◌++◌}
 use Rattle.wf_cursor.specs.declared.piece.Piece.{Piece}
 use Rattle.wf_cursor.specs.declared.piece.Piece.TheVariants as pieces

@@ -1,4 +1,5 @@
--- The grammar of expressions over pieces alone: any name, Int and Text, and any number of parentheses and nodes.
+-- Of the laws. The grammar of expressions over pieces alone.
+-- Any name, Int and Text, and any number of parentheses and nodes.
 use Rattle.std.specs.Prelude.{◌≡◌, List, [], ◌∷◌, ◌++◌}
 use Rattle.wf_model.specs.declared.expr.Op.{Op}
 use Rattle.wf_cursor.specs.declared.piece.Piece.{Piece}

@@ -1,4 +1,5 @@
--- Where the reader of charts tells its faults: `syntax` at the first piece that no text of the grammar has there, the others before it.
+-- Of the laws. Where the reader of charts reports its faults.
+-- `syntax` at the first piece that no text of the grammar has there, the others before it.
 use Rattle.std.specs.Prelude.{◌≡◌, ◌≢◌, ℕ, ◌+◌, ◌<◌, ◌≤◌, ◌⊎◌, List, ◌++◌, length, map, take, drop, Option, Some, None, Ok, Err}
 use Rattle.wf_model.specs.declared.chart.Chart.{Chart as Drawing}
 use Rattle.wf_lex.specs.declared.token.Token.{Token}

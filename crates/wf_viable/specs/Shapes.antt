@@ -1,4 +1,4 @@
--- Lists of pieces, and how lines of a grammar are put together of them.
+-- Of the laws. Lists of pieces, and how lines of a grammar are put together of them.
 use Rattle.std.specs.Prelude.{◌≡◌, List, [], ◌∷◌, ◌++◌, Option, Some, None}
 use Rattle.wf_cursor.specs.declared.piece.Piece.{Piece}
 

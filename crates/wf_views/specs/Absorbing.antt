@@ -1,4 +1,4 @@
--- The view after a step, from one update of each unit in unit order.
+-- Of other calls. The view after a step, from one update of each unit in unit order.
 use Rattle.std.specs.Prelude.{ℕ, ◌+◌, ◌==◌, Bool, List, map, filter, flat_map, length}
 use Rattle.std.specs.Option.{option_map_or}
 use Rattle.std.specs.List.{list_any}

@@ -1,4 +1,4 @@
--- What a unit makes of its view by its part alone.
+-- Of other calls. What a unit makes of its view by its part alone.
 use Rattle.std.specs.Prelude.{ℕ, ◌==◌, ◌&&◌, not, Bool, true, false, List, map, filter, filter_map, flat_map, find, Option}
 use Rattle.std.specs.Option.{option_map_or}
 use Rattle.std.specs.List.{list_any, range_with_len}

@@ -1,4 +1,4 @@
--- What a unit keeps between its steps, and what its next step sees of it.
+-- Of other calls. What a unit keeps between its steps, and what its next step sees of it.
 use Rattle.std.specs.Prelude.{ℕ, ◌-◌, ◌==◌, ◌||◌, nat_lt, Bool, List, [], ◌∷◌, map, filter, flat_map, find, option_map, Some, None, if◌then◌else◌}
 use Rattle.std.specs.List.{list_any}
 use Rattle.wf_model.specs.declared.ids.StateId.{StateId}

@@ -1,4 +1,5 @@
--- The names of the parts of a chart, by their numbers. A number that the chart hasn't has the empty name.
+-- The names of the parts of a chart, by their numbers.
+-- A number that no part has stands for the empty name.
 use Rattle.std.specs.Prelude.{ℕ, List, [], slice_get}
 use Rattle.std.specs.Option.{option_map_or}
 use Rattle.wf_model.specs.declared.ids.ActId.{ActId}

@@ -1,4 +1,11 @@
-//! Names by number, and numbers in decimal, as written texts have them.
+//! The names of a chart's parts by their numbers, and numbers in decimal, as written texts have
+//! them.
+//!
+//! - Promises: a name is that of the part, or empty if the chart has no such part. `append_number`
+//!   adds a number in decimal, or runs out of memory and leaves the text as it was.
+//! - Doesn't say: what stands around a name.
+//! - A caller: `wf_audit` writes its replies with them.
+//! - A change begins here if a part is to be named otherwise in all texts.
 #![tactic(auto)]
 
 mod names;

@@ -1,4 +1,4 @@
--- Who did which item.
+-- Of other calls. Who did which item.
 use Rattle.std.specs.Prelude.{ℕ, Option, nat_eq}
 use Rattle.std.specs.HashMap.{get}
 use Rattle.wf_worklist.specs.declared.board.Board.{Board}

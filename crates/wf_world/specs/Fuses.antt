@@ -2,7 +2,8 @@
 use Rattle.std.specs.Prelude.{◌≡◌, ℕ, ◌+◌, ◌<◌, ◌≤◌, Bool, true, false, Option, Some, None, option_map}
 use Rattle.wf_disk.specs.declared.arm.Arm.{Arm}
 use Rattle.wf_disk.specs.declared.arm.Arm.TheVariants.{Fail, Crash}
-use Rattle.wf_disk.specs.Disk.{Told, last_count}
+use Rattle.wf_model.specs.Faults.{last_count}
+use Rattle.wf_disk.specs.Disk.{Told}
 use Rattle.wf_machine.specs.Strokes.{Fuse}
 use Rattle.wf_world.specs.declared.fuse.Fuse.{Fuse as Kept}
 

@@ -1,4 +1,4 @@
--- The admission rule by a unit's part and its own history.
+-- Of the laws. The admission rule by a unit's part and its own history.
 use Rattle.std.specs.Prelude.{ℕ, ◌==◌, ◌&&◌, not, Bool, true, false, List, [], ◌∷◌, map, find, Result, Ok, Err, if◌then◌else◌}
 use Rattle.std.specs.Option.{option_map_or}
 use Rattle.std.specs.List.{list_any}

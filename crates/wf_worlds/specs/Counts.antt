@@ -1,4 +1,4 @@
--- How many items of an activity a view counts as open.
+-- Of the laws. How many items of an activity a view counts as open.
 use Rattle.std.specs.Prelude.{ℕ, ◌≡◌, ◌<◌, ◌≤◌, ◌+◌, ◌*◌, ◌^◌, nat_le, nat_lt, Bool, true, List, length}
 use Rattle.std.specs.List.{list_all}
 use Rattle.wf_model.specs.Limits.{max_units, max_starts, max_steps}

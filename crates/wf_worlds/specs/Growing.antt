@@ -1,4 +1,4 @@
--- What a server keeps of its history as it admits and takes turns.
+-- Of the laws. What a server keeps of its history as it admits and takes turns.
 use Rattle.std.specs.Prelude.{ℕ, suc, ◌+◌, ◌-◌, ◌≡◌, ◌<◌, ◌≤◌, nat_le, min, is_ok, true, List, [], ◌∷◌, ◌++◌, length, drop, sum, map}
 use Rattle.std.specs.List.{list_all, range_with_len}
 use Rattle.wf_model.specs.Limits.{max_sealed}

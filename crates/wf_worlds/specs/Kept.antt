@@ -1,4 +1,4 @@
--- What holds of the views and updates of servers whose histories are sound.
+-- Of the laws. What holds of the views and updates of servers whose histories are sound.
 use Rattle.std.specs.Prelude.{ℕ, suc, ◌*◌, ◌≡◌, ◌<◌, ◌≤◌, true, length}
 use Rattle.std.specs.List.{list_all}
 use Rattle.wf_model.specs.Limits.{max_steps}

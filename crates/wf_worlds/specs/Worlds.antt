@@ -1,4 +1,6 @@
--- Servers with their histories, what they hold of their peers, what may stand in their journals, and all messages ever sent.
+-- Of the laws. All servers, and what holds of them whatever is sent, lost or in doubt.
+-- A world has the servers with their histories, what they hold of their peers, what may stand in
+-- their journals, and all messages ever sent.
 use Rattle.std.specs.Prelude.{ℕ, suc, ◌+◌, ◌≡◌, ◌<◌, ◌≤◌, ◌==◌, ◌&&◌, is_ok, if◌then◌else◌, Bool, true, List, [], ◌∷◌, ◌++◌, length, map, Option, Some, None, option_map, option_and_then, All, slice_get}
 use Rattle.wf_model.specs.declared.chart.Chart.{Chart}
 use Rattle.wf_model.specs.declared.update.Update.{Update}

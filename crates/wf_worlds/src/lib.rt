@@ -1,6 +1,12 @@
-//! All servers together, as definitions: which admissions and turns a history may take, how histories go on, and what holds
-//! of all of them while messages are sent, lost and repeated, and records are in doubt after a crash. Laws as functions
-//! with nothing to do.
+//! All servers together, while messages are sent, lost and repeated, and records are in doubt after
+//! a crash.
+//!
+//! - Promises: after every list of such lines the histories agree and follow the rules, all that
+//!   was sent is what its sender made, and histories only grow. Each public function is a law and
+//!   has nothing to do.
+//! - Doesn't say: that any program keeps to the rules of admissions and turns.
+//! - A caller: the proofs of `wf_bridge` give each play a world.
+//! - A change of what may happen to messages and servers begins in `specs/Worlds.antt`.
 #![tactic(auto)]
 
 mod laws;

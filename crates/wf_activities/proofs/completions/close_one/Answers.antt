@@ -1,4 +1,4 @@
-use Rattle.std.proofs.Common.{◌≡◌, ◌<◌, List, true, length, get_or, sym, ◌∙◌, ap, refl}
+use Rattle.std.proofs.Common.{List, sym, ◌∙◌, ap}
 use Rattle.wf_semantics.specs.Items.{Item, item_at}
 use Rattle.std.proofs.Math.Seq.{map-set_same}
 use Rattle.wf_activities.specs.UnitItems.{UnitItems, is_open}

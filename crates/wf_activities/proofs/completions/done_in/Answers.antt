@@ -1,4 +1,4 @@
-use Rattle.std.proofs.Common.{◌≡◌, ℕ, Bool, List, length, map, take, nat_lt, sym, ◌∙◌, ap, arith, rules}
+use Rattle.std.proofs.Common.{ℕ, Bool, length, map, nat_lt, ◌∙◌, ap, arith}
 use Rattle.std.specs.List.{range_with_len}
 use Rattle.std.proofs.lemmas.List.{take_all}
 use Rattle.std.proofs.lemmas.Simd.{map-map}

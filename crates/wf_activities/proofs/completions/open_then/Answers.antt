@@ -1,6 +1,5 @@
-use Rattle.std.proofs.Common.{◌≡◌, ◌<◌, ℕ, List, length, map, get_or, Option, Some, sym, ◌∙◌, ap, arith, rules}
-use Rattle.std.specs.List.{range_with_len, slice_get}
-use Rattle.wf_model.specs.declared.chart.Activity.{Activity}
+use Rattle.std.proofs.Common.{◌≡◌, length, map, ◌∙◌, ap, arith, rules}
+use Rattle.std.specs.List.{range_with_len}
 use Rattle.wf_semantics.specs.Run.{open_now}
 use Rattle.wf_activities.specs.Completed.{done_by}
 use Rattle.wf_activities.specs.Stock.{items_in}

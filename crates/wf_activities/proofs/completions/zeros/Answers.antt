@@ -1,4 +1,4 @@
-use Rattle.std.proofs.Common.{◌≡◌, [], length, map, ◌∙◌, ap, arith, rules}
+use Rattle.std.proofs.Common.{◌≡◌, [], length, map, ◌∙◌, ap, rules}
 use Rattle.std.specs.List.{range_with_len}
 use Rattle.wf_activities.specs.Completed.{done_by}
 use Rattle.wf_activities.proofs.Rows.{row_more}

@@ -1,4 +1,4 @@
-use Rattle.std.proofs.Common.{ℕ, sym, ◌∙◌, arith, length-set}
+use Rattle.std.proofs.Common.{ℕ, sym, arith, length-set}
 use Rattle.wf_activities.proofs.Admitting.{unit_known}
 use Rattle.wf_activities.proofs.Numbering.{number_at, counted_at}
 use Rattle.wf_activities.proofs.numbers.next_number.Goals as goal

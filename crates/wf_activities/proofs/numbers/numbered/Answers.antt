@@ -1,12 +1,13 @@
-use Rattle.std.proofs.Common.{◌≡◌, ℕ, ◌+◌, ◌≤◌, List, [], ◌∷◌, ◌++◌, length, map, drop, get_or, cond, Bool, refl, sym, ◌∙◌, ap, arith}
+use Rattle.std.proofs.Common.{◌≡◌, ℕ, ◌+◌, List, ◌++◌, length, filter, drop, get_or, cond, ◌∙◌, ap, arith}
+use Rattle.std.proofs.lemmas.List.{length-map, take_all}
 use Rattle.wf_model.specs.declared.ids.ActId.{ActId}
 use Rattle.wf_model.specs.declared.update.StartAt.{StartAt}
 use Rattle.std.specs.Option.{option_map_or}
 use Rattle.std.specs.Vec.{with_items}
-use Rattle.wf_semantics.specs.Run.{act_unit, numbered}
+use Rattle.wf_semantics.specs.Run.{act_unit, is_at, numbered}
 use Rattle.wf_semantics.specs.Admission.{is_act_at}
 use Rattle.wf_activities.specs.UnitItems.{UnitItems}
-use Rattle.wf_activities.proofs.Numbering.{length_at, cond_few, numbered_step, numbered_all}
+use Rattle.wf_activities.proofs.Numbering.{length_at, cond_few, counted_starts, numbered_step, numbered_all}
 use Rattle.wf_activities.proofs.Stepping.{refilled}
 use Rattle.wf_activities.proofs.numbers.numbered.Goals as goal
 
@@ -32,6 +33,7 @@ loop-start-preserved c =
     ∙ ap (λ (l : List ℕ). cond (is_act_at c.args.chart.now u s.act.0) (get_or l u 0 + 1) (get_or l u 0)) c.deref_mut.ensures.value in
     record {
       long = ap length made ∙ long ∙ c.loop-start.invariant.long;
+      counted = λ u. counted_starts c.args.chart.now c.args.starts.now c.loop-start.start-index d u (get_or c.loop-start.counts.items u 0) (get_or (with_items c.loop-start.counts c.next_number-number.new.counts).items u 0) (get_or c.in_ok-counts.counts.items u 0) (omega arith) (counted u) (c.loop-start.invariant.counted u);
       few = λ u. omega (arith, counted u, cond_few (is_act_at c.args.chart.now u s.act.0) (get_or c.loop-start.counts.items u 0), c.loop-start.invariant.few u);
       rest =
           ap (λ (l : List (ActId × ℕ)). l ++ numbered c.args.chart.now (λ u. get_or (with_items c.loop-start.counts c.next_number-number.new.counts).items u 0) (drop (c.loop-start.start-index + 1) c.args.starts.now)) c.in_ok-push.ensures.ok
@@ -41,7 +43,20 @@ loop-start-preserved c =
           counted c.loop-start.invariant.rest;
     }
 
-pub returns : goal.returns
-returns c =
+pub returns-clause-starts : goal.returns-clause-starts
+returns-clause-starts c =
     numbered_all c.args.chart.now c.args.units.now c.args.starts.now c.loop-start.start-index c.in_ok-counts.counts.items c.loop-start.counts.items c.loop-start.numbers (omega arith) c.in_ok-counts.ensures
     c.loop-start.invariant.rest
+
+pub returns-clause-long : goal.returns-clause-long
+returns-clause-long c = c.loop-start.invariant.long ∙ ap length c.in_ok-counts.ensures ∙ length-map c.args.units.now (λ (i : UnitItems). length i.items)
+
+pub returns-clause-lengths : goal.returns-clause-lengths
+returns-clause-lengths c = λ u.
+    omega (
+      arith,
+      c.loop-start.invariant.counted u,
+      ap (λ (l : List ℕ). get_or l u 0) c.in_ok-counts.ensures,
+      length_at c.args.units.now u,
+      ap (λ (l : List StartAt). length (filter (is_at c.args.chart.now u) l)) (take_all c.loop-start.start-index c.args.starts.now (omega arith)),
+    )

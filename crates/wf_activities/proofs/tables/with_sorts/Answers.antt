@@ -1,9 +1,7 @@
-use Rattle.std.proofs.Common.{◌≡◌, ℕ, take, List, Option, Some, None, [], ◌∷◌, ◌++◌, get_or, append-nil, refl, sym, ◌∙◌, ap, arith}
+use Rattle.std.proofs.Common.{◌≡◌, ℕ, take, List, Option, Some, None, [], ◌∷◌, ◌++◌, get_or, append-nil, sym, ◌∙◌, ap, arith}
 use Rattle.std.specs.List.{cons_option}
-use Rattle.std.specs.Option.{option_map}
 use Rattle.wf_model.specs.declared.ids.VarId.{VarId}
 use Rattle.wf_model.specs.declared.value.Sort.{Sort}
-use Rattle.wf_model.specs.declared.chart.Variable.{Variable}
 use Rattle.wf_activities.specs.Stock.{with_sort, with_sorts}
 use Rattle.wf_activities.proofs.ChartTables.{sorts_more, sort_read}
 use Rattle.wf_activities.proofs.tables.with_sorts.Goals as goal

@@ -1,4 +1,4 @@
-use Rattle.std.proofs.Common.{sym, refl, ap, ◌∙◌}
+use Rattle.std.proofs.Common.{sym, ap}
 use Rattle.wf_model.specs.declared.outer.Outer.{Outer}
 use Rattle.wf_semantics.specs.Run.{is_happening}
 use Rattle.wf_central.proofs.Marking.{happening_marked, nothing_marked}

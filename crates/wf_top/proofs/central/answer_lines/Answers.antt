@@ -1,5 +1,5 @@
 use Rattle.std.proofs.Common.{length, ap, arith}
-use Rattle.wf_audit.proofs.Counted.{script_short}
+use Rattle.wf_audit.proofs.Scripts.{script_short}
 use Rattle.wf_top.proofs.central.answer_lines.Goals as goal
 
 pub run-requires : goal.run-requires

@@ -1,5 +1,4 @@
-use Rattle.std.proofs.Common.{◌≡◌, ◌<◌, length, get_or, sym, ◌∙◌, ap, ap₂, arith}
-use Rattle.std.proofs.lemmas.List.{length-map}
+use Rattle.std.proofs.Common.{◌≡◌, length, get_or, sym, ◌∙◌, ap, ap₂, arith}
 use Rattle.wf_model.specs.declared.value.Sort.{Sort}
 use Rattle.wf_model.specs.declared.ids.VarId.{VarId}
 use Rattle.std.proofs.Common.{List}
@@ -10,8 +9,8 @@ use Rattle.wf_activities.proofs.Admitting.{act_there, unit_known, get_within, ou
 use Rattle.wf_activities.proofs.all_items.AllItems.may_complete.Goals as goal
 
 pub returns-then-not-is_act_at : goal.returns-then-not-is_act_at
-returns-then-not-is_act_at c =
-    wrong_unit c.args.chart.now (items_at c.args.self.now) c.args.pending.now c.args.unit.0 c.args.item c.args.act c.args.outputs.now (sym c.is_act_at.ensures ∙ c.if-not-is_act_at.true)
+returns-then-not-is_act_at c = λ entries same.
+    wrong_unit c.args.chart.now (items_at c.args.self.now) entries c.args.unit.0 c.args.item c.args.act c.args.outputs.now (sym c.is_act_at.ensures ∙ c.if-not-is_act_at.true)
 
 pub index-items-requires : goal.index-items-requires
 index-items-requires c =
@@ -36,7 +35,7 @@ bounds-as_slice-act c =
     )
 
 pub returns : goal.returns
-returns c =
+returns c = λ entries same.
     let there = act_there c.args.chart.now c.args.unit.0 c.args.act.0 (sym c.is_act_at.ensures ∙ c.if-not-is_act_at.false) in
     let items : c.index-items.result.now.items ≡ items_at c.args.self.now c.args.unit.0 =
     items_read c.self.inside.units.items c.args.self.now c.args.unit.0 c.index-items.result.now (ap (λ (s : Stock). s.items) c.self.view_is)
@@ -55,6 +54,6 @@ returns c =
     ∙ ap₂ unless_pending
     (c.may_complete-answer.ensures.answer
     ∙ ap₂ (λ (l : List Item) (w : List (VarId × Sort)). may_complete l c.args.item c.args.act c.args.outputs.now w) items (c.as_slice-2.ensures ∙ made))
-    c.is_pending.ensures
-    ∙ answered c.args.chart.now (items_at c.args.self.now) c.args.pending.now c.args.unit.0 c.args.item c.args.act c.args.outputs.now there.0 _
+    (sym same)
+    ∙ answered c.args.chart.now (items_at c.args.self.now) entries c.args.unit.0 c.args.item c.args.act c.args.outputs.now there.0 _
     (sym c.is_act_at.ensures ∙ c.if-not-is_act_at.false) there.1 (outputs_sorted c.args.chart.now c.requires.accepted c.args.act.0 there.0 there.1)

@@ -1,4 +1,4 @@
-use Rattle.std.proofs.Common.{◌≡◌, ℕ, List, [], get_or, map, sym, ◌∙◌, ap, subst}
+use Rattle.std.proofs.Common.{ℕ, List, sym, ◌∙◌, ap, subst}
 use Rattle.wf_semantics.specs.Items.{Item}
 use Rattle.wf_activities.specs.UnitItems.{UnitItems}
 use Rattle.wf_activities.specs.Stock.{Stock, items_at, items_in}

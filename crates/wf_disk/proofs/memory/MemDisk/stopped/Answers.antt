@@ -1,5 +1,6 @@
 use Rattle.std.proofs.Common.{rules, ◌≡◌, ◌↔◌, ◌==◌, true, subst, sym}
-use Rattle.wf_disk.specs.Disk.{IsDown, last_count}
+use Rattle.wf_model.specs.Faults.{last_count}
+use Rattle.wf_disk.specs.Disk.{IsDown}
 use Rattle.wf_disk.specs.Memory.{has_stopped, told_of}
 use Rattle.wf_disk.proofs.Plans.{down_is_stopped}
 use Rattle.wf_disk.proofs.memory.MemDisk.stopped.Goals as goal

@@ -1,7 +1,8 @@
 use Rattle.std.proofs.Common.{rules, ◌+◌, ℕ, List, [], ◌∷◌, Some, length, sym, ◌∙◌, ap, subst}
 use Rattle.wf_disk.specs.Disk.{Torn, Follows, Elapses, GoesOnOrStops}
 use Rattle.wf_disk.specs.Strokes.{Stroke, Outcome}
-use Rattle.wf_disk.specs.Memory.{Held, image_of, state_of, told_of, counted, stopped_by, one_more}
+use Rattle.wf_model.specs.Faults.{one_more}
+use Rattle.wf_disk.specs.Memory.{Held, image_of, state_of, told_of, counted, stopped_by}
 use Rattle.wf_disk.proofs.Replays.{image_after-more}
 use Rattle.wf_disk.proofs.Plans.{fails_on, stops_by}
 use Rattle.wf_disk.proofs.Tells.{follows_write, elapses_stroke}

@@ -1,6 +1,0 @@
--- Which numbers the maps of a chart's names find.
-use Rattle.wf_audit.specs.declared.names.Names.{Names}
-use Rattle.wf_audit.specs.Names.{Finder, found_in}
-
-abbrev pub finder_of : Names → Finder
-finder_of names = record { unit = found_in names.units; event = found_in names.events; act = found_in names.acts; var = found_in names.vars }

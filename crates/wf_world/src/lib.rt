@@ -12,6 +12,7 @@ mod fault;
 mod fuse;
 mod laws;
 mod mail;
+mod merged;
 mod sight;
 
 pub use fault::ActFault;

@@ -48,7 +48,6 @@ back [] = refl
 back (x ∷ xs) = ap (λ (ys : List Admission). x ∷ ys) (back xs)
 
 module _ (chart : Chart) (ok : IsAccepted chart) (units : List UnitState) (messages : List Sent) (count : length units ≡ length chart.units) where
-
   abbrev m : CountingMachine
   m = machine_of units messages
 
@@ -67,7 +66,6 @@ module _ (chart : Chart) (ok : IsAccepted chart) (units : List UnitState) (messa
   }
 
   module _ (s : IsSound chart units) (u : ℕ) (lt : u < length chart.units) where
-
     lean_here : AreLean chart h
     lean_here = are_lean chart ok units count s
 

@@ -40,7 +40,6 @@ module _ (chart : Chart) (units : List UnitState) (s : IsSound chart units) (u :
     (own : slice_index_or slots u None ≡ None)
     (came : (v : ℕ) → v < length chart.units → v ≢ u → (update : Update) × (slice_index_or slots v None ≡ Some update))
     (made : (v : ℕ) (update : Update) → v < length chart.units → slice_index_or slots v None ≡ Some update → IsMade chart (hist_of units) v u (suc (taken (hist_of units u))) update) where
-
   abbrev h : ℕ → History
   h = hist_of units
 

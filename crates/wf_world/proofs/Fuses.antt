@@ -1,15 +1,15 @@
 -- What strokes do to a disk that is to fail just where a fuse says.
-use Rattle.std.proofs.Common.{◌≡◌, ◌≢◌, ◌⊎◌, inl, inr, ℕ, ◌+◌, ◌-◌, ◌<◌, ◌≤◌, ◌==◌, ◌||◌, Bool, true, false, List, Option, Some, None, option_map, refl, sym, ◌∙◌, ap, ap₂, subst, arith, rules, nat_lt, nat_le, cond}
+use Rattle.std.proofs.Common.{◌≡◌, ◌≢◌, ◌⊎◌, inl, inr, ℕ, ◌+◌, ◌-◌, ◌<◌, ◌≤◌, ◌==◌, ◌||◌, Bool, true, false, List, Option, Some, None, option_map, refl, sym, ◌∙◌, ap, ap₂, subst, arith, rules, nat_lt, cond}
 use Rattle.std.specs.Prelude.{is_some}
 use Rattle.std.proofs.lemmas.Bool.{cond-true, cond-false, eqb-true, eq-eqb}
 use Rattle.wf_disk.specs.declared.arm.Arm.{Arm}
 use Rattle.wf_disk.specs.declared.arm.Arm.TheVariants.{Fail, Crash}
 use Rattle.wf_model.specs.Faults.{last_count}
-use Rattle.wf_disk.specs.Disk.{Told, KeepsPlan, GoesOnOrStops, IsDown}
+use Rattle.wf_disk.specs.Disk.{Told, GoesOnOrStops, IsDown}
 use Rattle.wf_disk.specs.declared.arm.Armed.{Armed}
 use Rattle.wf_disk.specs.declared.arm.Outcome.{Outcome}
 use Rattle.wf_disk.specs.declared.arm.Fate.TheVariants as fate
-use Rattle.wf_disk.specs.Arms.{is_counted, fate_at, fate_by, is_stop}
+use Rattle.wf_disk.specs.Arms.{fate_at, fate_by, is_stop}
 use Rattle.wf_disk.specs.Memory.{Held, told_of, armed, is_stopped_for, is_stopped_after, fate_for}
 use Rattle.wf_journal.specs.Plan.{WentOn, Struck}
 use Rattle.wf_machine.specs.Strokes.{Fuse, Met, Done, SetOff, strokes}

@@ -25,7 +25,7 @@ use Rattle.wf_views.specs.Views.{View}
 use Rattle.wf_views.specs.OwnSteps.{part_step, own_update}
 use Rattle.wf_lockstep.specs.Within.{is_at_unit}
 use Rattle.wf_lockstep.proofs.Within.{all_filter, own_within}
-use Rattle.wf_histories.specs.Histories.{History, taken, sealed_by, local}
+use Rattle.wf_histories.specs.Histories.{History, sealed_by, local}
 use Rattle.wf_steps.specs.Fitting.{is_state_from, is_event_from, is_act_from, is_outer_from, suits}
 use Rattle.wf_owns.specs.Sorted.{is_fit}
 use Rattle.wf_worlds.specs.Growing.{Good}

@@ -1,20 +1,19 @@
 -- The entries at the places of the merged list.
-use Rattle.std.proofs.Common.{◌≡◌, ℕ, zero, suc, ◌+◌, ◌<◌, ◌≤◌, ◌⊎◌, Option, Some, None, List, [], ◌∷◌, ◌++◌, map, flat_map, length, take, drop, get_or, sum, slice_get, inl, inr, refl, sym, ap, ap₂, ◌∙◌, arith}
+use Rattle.std.proofs.Common.{◌≡◌, ℕ, zero, suc, ◌+◌, ◌<◌, ◌≤◌, Option, Some, List, [], ◌∷◌, ◌++◌, map, flat_map, length, take, drop, get_or, sum, slice_get, inl, inr, refl, sym, ap, ap₂, ◌∙◌, arith}
 use Rattle.std.specs.Option.{option_map}
 use Rattle.std.specs.List.{range_with_len}
 use Rattle.std.proofs.lemmas.List.{map-append, get_or_past}
 use Rattle.std.proofs.lemmas.List.Sums.{sum_by_more_le, sum_by-take-le}
 use Rattle.wf_semantics.proofs.Children.{lt_or_ge}
 use Rattle.wf_model.specs.declared.chart.Chart.{Chart}
-use Rattle.wf_model.specs.declared.outer.Outer.{Outer}
 use Rattle.wf_model.specs.declared.outer.Entry.{Entry}
 use Rattle.wf_machine.specs.declared.admission.Place.{Place}
-use Rattle.wf_machine.specs.Server.{sealed_at, numbers_sealed}
+use Rattle.wf_machine.specs.Server.{numbers_sealed}
 use Rattle.wf_machine.specs.Machine.{place_of}
 use Rattle.wf_machine.proofs.Stays.{sealed_number}
 use Rattle.wf_histories.specs.Histories.{Admission, History, seals, sealed_by}
-use Rattle.wf_histories.specs.Agreement.{least_taken, entry, merged_entries, merged_list}
-use Rattle.wf_histories.specs.Laws.{merged_of, AreLean}
+use Rattle.wf_histories.specs.Agreement.{least_taken, entry, merged_entries}
+use Rattle.wf_histories.specs.Laws.{AreLean}
 use Rattle.wf_histories.proofs.Lets.{central_law}
 use Rattle.wf_worlds.specs.Growing.{Fits}
 use Rattle.wf_projection.specs.Merged.{places_at, merged_places, numbered, entry_at, IsCentralAt}

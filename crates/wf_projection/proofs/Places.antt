@@ -7,7 +7,7 @@ use Rattle.std.proofs.lemmas.List.FromFn.{map-range_with_len_more}
 use Rattle.std.proofs.lemmas.List.Sums.{sum_by_more, sum_by_more_le}
 use Rattle.wf_model.proofs.Rows.{row_at}
 use Rattle.wf_machine.specs.declared.admission.Place.{Place}
-use Rattle.wf_machine.specs.Server.{sealed_at, numbers_sealed}
+use Rattle.wf_machine.specs.Server.{numbers_sealed}
 use Rattle.wf_machine.specs.Machine.{place_of}
 use Rattle.wf_machine.proofs.Stays.{sealed_number}
 use Rattle.wf_histories.specs.Histories.{History, TurnDone, seals, taken}

@@ -10,7 +10,7 @@ use std::alloc::Global;
 use wf_model::limits::MAX_TRANSITIONS;
 use wf_model::{ActId, Duplicate, List, NoMemory, Outer, StartAt, Update};
 
-/// Copies of the peers' updates, with a copy of the own one at its place, or at the end where there is no such place. In linear time
+/// Copies of the peers' updates, with a copy of the own one at its place, or at the end if there is no such place. In linear time
 /// in the updates.
 pub fn with_own(
     alloc: Global,

@@ -12,3 +12,5 @@ pub mod Endings
 pub mod Starting
 pub mod Showing
 pub mod Suits
+pub mod Merging
+pub mod MergedIs

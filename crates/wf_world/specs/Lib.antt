@@ -6,3 +6,4 @@ pub mod Fuses
 pub mod Units
 pub mod Sounds
 pub mod Shown
+pub mod Merged

@@ -1,10 +1,9 @@
-use Rattle.std.proofs.Common.{◌≡◌, ◌<◌, ◌≤◌, ℕ, List, [], ◌∷◌, ◌++◌, ◌∙◌, map, flat_map, length, get_or, ap, refl, arith}
+use Rattle.std.proofs.Common.{◌≡◌, ◌<◌, ℕ, List, [], ◌∷◌, ◌++◌, ◌∙◌, map, flat_map, length, get_or, ap, refl, arith}
 use Rattle.std.specs.List.{range_with_len}
 use Rattle.wf_model.proofs.Rows.{row_more}
 use Rattle.wf_machine.specs.declared.admission.Place.{Place}
-use Rattle.wf_histories.specs.Histories.{History}
 use Rattle.wf_histories.specs.Agreement.{least_taken}
-use Rattle.wf_projection.specs.Merged.{AreOf, merged_places}
+use Rattle.wf_projection.specs.Merged.{merged_places}
 use Rattle.wf_projection.proofs.Places.{step_of, step_is, list_is, all_fit}
 use Rattle.wf_projection.proofs.Central.{central_at}
 use Rattle.wf_projection.proofs.merging.merged.Goals as goal

@@ -1,4 +1,4 @@
-use Rattle.std.proofs.Common.{◌≡◌, Bool, ◌∙◌, ◌<◌, ◌+◌, ◌^◌, ℕ, List, length, map, take, get_or, ap, sym, refl, arith}
+use Rattle.std.proofs.Common.{◌≡◌, Bool, ◌∙◌, ◌<◌, ◌+◌, ℕ, List, length, map, get_or, ap, arith}
 use Rattle.std.specs.List.{list_any, enumerate_from}
 use Rattle.std.proofs.lemmas.List.{take_all}
 use Rattle.wf_model.specs.declared.ids.ActId.{ActId}

@@ -24,6 +24,13 @@ pub struct Gathered {
     pub fired: List<TransId>,
 }
 
+// Whether a transition is the unit's own and fires.
+fn acts(trans: &PartTransition, fires: bool) -> bool
+    ensures { result ≡ (trans.now.own && fires) }
+{
+    trans.own && fires
+}
+
 impl Gathered {
     // Nothing was done.
     fn none(alloc: Global) -> Gathered
@@ -106,7 +113,7 @@ impl Gathered {
     {
         let mut gathered = Gathered::none(alloc);
         for (at, trans) in transitions.iter().enumerate() {
-            if trans.own && flag_at(fires, at) {
+            if acts(trans, flag_at(fires, at)) {
                 gathered.fire(sight, trans)?;
             }
         }

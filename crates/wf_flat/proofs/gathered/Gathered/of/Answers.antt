@@ -1,22 +1,17 @@
-use Rattle.std.proofs.Common.{◌≡◌, ◌&&◌, ◌∙◌, Bool, true, false, List, filter, take, refl, sym, ap, ap₂, subst, ◌+◌}
+use Rattle.std.proofs.Common.{◌≡◌, ◌&&◌, ◌∙◌, Bool, false, List, filter, take, sym, ap, subst}
 use Rattle.wf_parts.specs.declared.data.PartTransition.{PartTransition}
 use Rattle.std.proofs.lemmas.List.{take_all}
-use Rattle.wf_model.proofs.Bools.{and_true}
 use Rattle.wf_flat.specs.Firing.{CanFire}
 use Rattle.wf_flat.specs.Gathering.{gathered_of}
 use Rattle.wf_flat.specs.Sighted.{shown_by}
 use Rattle.wf_flat.proofs.Loops.{flag_is}
 use Rattle.wf_flat.proofs.Gathering.{kept_more, left_more}
 use Rattle.wf_flat.proofs.gathered.Gathered.of.Goals as goal
-use Rattle.wf_flat.proofs.gathered.Gathered.of.Goals.{then-trans+then-flag_at+in_ok-fire, else-trans, else-trans-via-then-trans+else-flag_at, else-trans-via-else-trans}
+use Rattle.wf_flat.proofs.gathered.Gathered.of.Goals.{then-acts+in_ok-fire, else-acts}
 
 pub fire-requires : goal.fire-requires
 fire-requires c =
     subst (λ (t : PartTransition). CanFire (shown_by c.args.sight.now).seen t) (sym c.index-transitions-at.is) (c.requires c.loop-at.at c.index-transitions-at.result c.loop-at-test.true)
-
-not_both : (a b : Bool) → b ≡ false → (a && b) ≡ false
-not_both true b h = h
-not_both false b h = refl
 
 pub loop-at-preserved : goal.loop-at-preserved
 loop-at-preserved c = λ test same.
@@ -26,15 +21,14 @@ loop-at-preserved c = λ test same.
     let x = c.index-transitions-at.result in
     let fires = λ (trans : PartTransition). trans.own && test trans in
     let said = flag_is test xs c.args.fires.now i x same c.loop-at-test.true c.index-transitions-at.is in
-    let stays = λ (h : fires x ≡ false). c.loop-at.invariant test same ∙ ap (gathered_of seen) (left_more fires xs i x c.loop-at-test.true c.index-transitions-at.is h) in
-    elim c.if-trans.branch [
-      | then-trans+then-flag_at+in_ok-fire w ↦
+    let told = ap (λ (b : Bool). x.own && b) (c.flag_at.ensures ∙ said) in
+    elim c.if-acts.branch [
+      | then-acts+in_ok-fire w ↦
           w.gathered-is ∙ w.in_ok-fire.ensures (filter fires (take i xs)) (c.loop-at.invariant test same)
-          ∙ ap (gathered_of seen) (kept_more fires xs i x c.loop-at-test.true c.index-transitions-at.is (and_true x.own (test x) w.if-trans.true (sym said ∙ sym w.if-flag_at.ensures)))
-      | else-trans w ↦ w.gathered-is ∙ elim w.else-trans.branch [
-        | else-trans-via-then-trans+else-flag_at v ↦ stays (not_both x.own (test x) (sym said ∙ sym v.if-flag_at.ensures))
-        | else-trans-via-else-trans v ↦ stays (ap (λ (b : Bool). b && test x) v.if-trans.false)
-      ]
+          ∙ ap (gathered_of seen) (kept_more fires xs i x c.loop-at-test.true c.index-transitions-at.is (sym told ∙ sym w.if-acts.ensures))
+      | else-acts w ↦
+          w.gathered-is ∙ c.loop-at.invariant test same
+          ∙ ap (gathered_of seen) (left_more fires xs i x c.loop-at-test.true c.index-transitions-at.is (sym told ∙ sym w.if-acts.ensures))
     ]
 
 pub returns : goal.returns

@@ -1,0 +1,164 @@
+//! Whether lists of entries are a run of a chart, which shares are asked for.
+ghost use Rattle.std.specs.Prelude.{◌≡◌, length, map, take, drop, ◌≤◌, [], IsTrue, IfOk, IfSome};
+ghost use Rattle.std.specs.List.{list_all, range_with_len};
+ghost use Rattle.wf_semantics.specs.Admission.{completes, is_pending, may_come, may_come_after};
+ghost use Rattle.wf_semantics.specs.Run.{next_state};
+ghost use Rattle.wf_activities.specs.Completing.{completes_again};
+ghost use Rattle.wf_central.specs.Kept.{central_of, IsOf};
+ghost use Rattle.wf_runs.specs.Runs.{IsRun, IsRunFrom};
+ghost use Rattle.wf_parts.specs.Parts.{part_of};
+ghost use Rattle.wf_lockstep.specs.Shares.{entries_at};
+ghost use Rattle.wf_lockstep.specs.Ordered.{rises};
+ghost use Rattle.wf_part_tests.specs.Runs.{IsSharedRun};
+
+use std::alloc::Global;
+use wf_central::CentralState;
+use wf_model::limits::MAX_STEPS;
+use wf_model::{Checked, Entry, List, NoMemory, Outer, StepNotes, UnitId, Update};
+use wf_parts::Part;
+use wf_projection::shares;
+
+// Whether one of the entries completes the item that an outer at the unit completes.
+fn completes_again(entries: &[Entry], unit: UnitId, outer: &Outer) -> bool
+    ensures { result ≡ completes_again entries.now unit.0 outer.now }
+{
+    match outer {
+        Outer::Happen(_) => false,
+        Outer::Complete { item, .. } => is_pending(entries, unit, *item),
+    }
+}
+
+fn completes(outer: &Outer, number: u32) -> bool
+    ensures { result ≡ completes number outer.now }
+{
+    match outer {
+        Outer::Happen(_) => false,
+        Outer::Complete { item, .. } => *item == number,
+    }
+}
+
+fn is_pending(entries: &[Entry], unit: UnitId, number: u32) -> bool
+    ensures { result ≡ is_pending entries.now unit.0 number }
+{
+    entries.iter().any(|entry| entry.unit.0 == unit.0 && completes(&entry.outer, number))
+}
+
+// Whether the entries from this place on may come behind those before it.
+#[tactic(auto, using(crate::proofs::Coming::none_left, crate::proofs::Coming::one_comes))]
+fn may_come_from(checked: &Checked, state: &CentralState, entries: &[Entry], at: usize) -> bool
+    requires of { IsOf checked.now state.now }
+    requires within { at ≤ length entries.now }
+    ensures { result ≡ may_come_after checked.now (central_of checked.now state.now).items (take at entries.now) (drop at entries.now) }
+{
+    if at == entries.len() {
+        return true;
+    }
+    let Entry { unit, outer } = &entries[at];
+    let pending = completes_again(&entries[..at], *unit, outer);
+    state.may_admit(checked, *unit, outer, pending).is_ok()
+        && may_come_from(checked, state, entries, at + 1)
+}
+
+// Whether the entries may come in the next step.
+fn may_come(checked: &Checked, state: &CentralState, entries: &[Entry]) -> bool
+    requires { IsOf checked.now state.now }
+    ensures { result ≡ may_come checked.now (central_of checked.now state.now).items entries.now }
+{
+    may_come_from(checked, state, entries, 0)
+}
+
+/// Takes a step, or answers none if these entries may not come in it.
+#[tactic(auto, unfolding(wf_central::specs::Kept::central_of))]
+pub fn step_if_run(
+    alloc: Global,
+    checked: &Checked,
+    state: &mut CentralState,
+    entries: &[Entry],
+) -> Result<Option<StepNotes>, NoMemory>
+    requires { IsOf checked.now state.old }
+    ensures of { IsOf checked.now state.new }
+    ensures come { IfOk result (λ notes. IfSome notes (λ n. IsTrue (may_come checked.now (central_of checked.now state.old).items entries.now))) }
+    ensures state { IfOk result (λ notes. IfSome notes (λ n. central_of checked.now state.new ≡ next_state checked.now (central_of checked.now state.old) entries.now)) }
+{
+    if state.taken() >= MAX_STEPS || !may_come(checked, state, entries) {
+        return Ok(None);
+    }
+    Ok(Some(state.step(alloc, checked, entries)?))
+}
+
+// Whether the lists are a run on from this state.
+fn goes_on(
+    alloc: Global,
+    checked: &Checked,
+    state: &mut CentralState,
+    outer: &[List<Entry>],
+) -> Result<bool, NoMemory>
+    requires { IsOf checked.now state.old }
+    ensures { IfOk result (λ goes. IsTrue goes → IsRunFrom checked.now (central_of checked.now state.old) outer.now) }
+{
+    match outer {
+        [] => Ok(true),
+        [entries, more @ ..] => match step_if_run(alloc, checked, state, entries.as_slice())? {
+            None => Ok(false),
+            Some(_) => goes_on(alloc, checked, state, more),
+        },
+    }
+}
+
+fn is_run(alloc: Global, checked: &Checked, outer: &[List<Entry>]) -> Result<bool, NoMemory>
+    ensures { IfOk result (λ is. IsTrue is → IsRun checked.now outer.now) }
+{
+    let mut state = CentralState::first(alloc, checked)?;
+    goes_on(alloc, checked, &mut state, outer)
+}
+
+// Whether the units of the entries don't fall, from this unit on.
+fn rises(from: u32, entries: &[Entry]) -> bool
+    ensures { result ≡ rises from entries.now }
+{
+    match entries {
+        [] => true,
+        [first, more @ ..] => from <= first.unit.0 && rises(first.unit.0, more),
+    }
+}
+
+fn all_rise(outer: &[List<Entry>]) -> bool
+    ensures { result ≡ list_all (rises 0) outer.now }
+{
+    outer.iter().all(|entries| rises(0, entries.as_slice()))
+}
+
+fn is_first_empty(outer: &[List<Entry>]) -> bool
+    ensures { IsTrue result → entries_at outer.now 1 ≡ [] }
+{
+    match outer {
+        [] => true,
+        [first, ..] => first.is_empty(),
+    }
+}
+
+fn is_shared_run(alloc: Global, checked: &Checked, outer: &[List<Entry>]) -> Result<bool, NoMemory>
+    ensures { IfOk result (λ is. IsTrue is → IsSharedRun checked.now outer.now) }
+{
+    Ok(
+        is_run(alloc, checked, outer)?
+            && is_first_empty(outer)
+            && all_rise(outer)
+            && outer.len() <= MAX_STEPS as usize,
+    )
+}
+
+/// What each unit contributes to each step, or none if the lists are no such run of the chart.
+pub fn shares_of_run(
+    alloc: Global,
+    checked: &Checked,
+    parts: &[Part],
+    outer: &[List<Entry>],
+) -> Result<Option<List<List<Update>>>, NoMemory>
+    requires { parts.now ≡ map (part_of checked.now) (range_with_len 0 (length checked.now.units)) }
+{
+    if !is_shared_run(alloc, checked, outer)? {
+        return Ok(None);
+    }
+    Ok(Some(shares(alloc, checked, parts, outer)?))
+}

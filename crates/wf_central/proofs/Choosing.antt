@@ -9,7 +9,12 @@ use Rattle.wf_model.specs.Ids.{trans_id}
 use Rattle.wf_model.proofs.Rows.{row_agree, row_set, put}
 use Rattle.wf_central.specs.Kept.{bit}
 use Rattle.wf_scopes.proofs.DefaultIn.{flip}
-use Rattle.wf_central.specs.Passes.{chosen_from, chosen_by}
+use Rattle.wf_central.specs.Passes.{chosen_by}
+
+-- the first ready transition from number t on whose scope is s
+abbrev pub chosen_from : Chart → List Bool → ℕ → ℕ → Option TransId
+chosen_from chart ready t s =
+    option_map trans_id (find (λ u. bit ready u && (scope chart u == s)) (range_with_len t (length chart.transitions - t)))
 
 -- one number more at the front
 range_down : (t m : ℕ) → 0 < t → t ≤ m → range_with_len (t - 1) (m - (t - 1)) ≡ (t - 1) ∷ range_with_len t (m - t)

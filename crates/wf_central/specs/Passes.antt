@@ -1,6 +1,6 @@
 -- Inner. What each pass of a step makes of the one before it.
-use Rattle.std.specs.Prelude.{ℕ, ◌-◌, ◌==◌, ◌&&◌, Bool, false, List, [], ◌∷◌, Option, Some, None, is_some, unwrap_or, slice_get, find, length, option_map, if◌then◌else◌}
-use Rattle.std.specs.List.{list_any, range_with_len}
+use Rattle.std.specs.Prelude.{ℕ, ◌==◌, ◌&&◌, Bool, false, List, [], ◌∷◌, Option, Some, None, is_some, unwrap_or, slice_get, find, length, option_map, if◌then◌else◌}
+use Rattle.std.specs.List.{list_any}
 use Rattle.wf_model.specs.declared.ids.StateId.{StateId}
 use Rattle.wf_model.specs.declared.ids.TransId.{TransId}
 use Rattle.wf_model.specs.declared.chart.Chart.{Chart}
@@ -48,8 +48,3 @@ bit_by chart z was (Some t) = is_in z (entry_tree chart t.0)
 -- whether z is in afterwards
 abbrev pub moved_by : Chart → List Bool → List (Option TransId) → ℕ → Bool
 moved_by chart active firing z = bit_by chart z (bit active z) (first_ids firing (ancestor_ids chart z))
-
--- the first ready transition from number t on whose scope is s
-abbrev pub chosen_from : Chart → List Bool → ℕ → ℕ → Option TransId
-chosen_from chart ready t s =
-    option_map trans_id (find (λ u. bit ready u && (scope chart u == s)) (range_with_len t (length chart.transitions - t)))

@@ -1,5 +1,6 @@
 //! What was admitted for the next step.
 ghost use Rattle.std.specs.Prelude.{◌≡◌, ◌++◌, [], ◌∷◌, OnOk, OnErr};
+ghost use Rattle.wf_semantics.specs.Admission.{completes, is_pending};
 ghost use Rattle.wf_activities.specs.Completing.{completes_again};
 ghost use Rattle.wf_central.specs.Found.{completed_by};
 
@@ -35,6 +36,36 @@ fn completed_by(entry: &Entry) -> Option<(u32, u32)>
     match entry.outer {
         Outer::Happen(_) => None,
         Outer::Complete { item, .. } => Some((entry.unit.0, item)),
+    }
+}
+
+// Whether the outer completes this item.
+fn completes(outer: &Outer, item: u32) -> bool
+    ensures { result ≡ completes item outer.now }
+{
+    match outer {
+        Outer::Happen(_) => false,
+        Outer::Complete { item: other, .. } => *other == item,
+    }
+}
+
+// Whether one of these entries completes an item of a unit. Grows with the entries.
+fn is_pending(entries: &[Entry], unit: UnitId, item: u32) -> bool
+    ensures { result ≡ is_pending entries.now unit.0 item }
+{
+    entries
+        .iter()
+        .any(|x| x.unit.0 == unit.0 && completes(&x.outer, item))
+}
+
+/// Whether one of these entries completes the item that this outer at a unit completes. Grows with the entries. Takes no
+/// memory.
+pub fn completes_again(entries: &[Entry], unit: UnitId, outer: &Outer) -> bool
+    ensures { result ≡ completes_again entries.now unit.0 outer.now }
+{
+    match outer {
+        Outer::Happen(_) => false,
+        Outer::Complete { item, .. } => is_pending(entries, unit, *item),
     }
 }
 

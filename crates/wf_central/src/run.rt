@@ -90,8 +90,8 @@ impl CentralRun {
         ensures state { state_of self.new ≡ state_of self.old }
         ensures err { OnErr result (self.new ≡ self.old) }
     {
-        let pending = self.pending.completes(unit, outer);
-        match self.central.may_admit(checked, unit, outer, pending) {
+        let again = self.pending.completes(unit, outer);
+        match self.central.may_admit_if(checked, unit, outer, again) {
             Ok(()) => {
                 let outer = outer.copy(alloc)?;
                 self.pending.push(Entry { unit, outer })?;

@@ -14,6 +14,7 @@ ghost use Rattle.wf_central.specs.Made.{MakesStep};
 
 use crate::outputs;
 use crate::passes::{self, AfterStep};
+use crate::pending::completes_again;
 use crate::snapshot::{self, StepSnapshot};
 use std::alloc::Global;
 use std::marker::Model;
@@ -109,21 +110,36 @@ impl CentralState {
         self.taken
     }
 
-    /// Whether a unit may admit an outer, or why not, where `pending` tells whether a pending entry completes the same item: `WrongUnit` where the event or the
+    /// Whether a unit may admit an outer where these entries are pending, or why not: `WrongUnit` where the event or the
     /// activity isn't at the unit, else `NoItem` where the unit has no item of this number and activity, else `AlreadyDone`
     /// where the item is closed or a pending entry completes it, else `WrongOutput` where the outputs aren't one value of the
-    /// right sort for each output of the activity, in order. Grows with the outputs. Takes no memory.
+    /// right sort for each output of the activity, in order. Grows with the pending entries and the outputs. Takes no memory.
     pub fn may_admit(
+        &self,
+        checked: &Checked,
+        pending: &[Entry],
+        unit: UnitId,
+        outer: &Outer,
+    ) -> Result<(), OuterFault>
+        requires { IsOf checked.now self.now }
+        ensures { result ≡ may_be_admitted checked.now (central_of checked.now self.now).items pending.now unit.0 outer.now }
+    {
+        let again = completes_again(pending, unit, outer);
+        self.may_admit_if(checked, unit, outer, again)
+    }
+
+    // The same, if it is known whether a pending entry completes the same item. Grows with the outputs.
+    pub(crate) fn may_admit_if(
         &self,
         checked: &Checked,
         unit: UnitId,
         outer: &Outer,
-        pending: bool,
+        again: bool,
     ) -> Result<(), OuterFault>
         requires { IsOf checked.now self.now }
-        ensures { (entries : Listed Entry) → completes_again entries unit.0 outer.now ≡ pending → result ≡ may_be_admitted checked.now (central_of checked.now self.now).items entries unit.0 outer.now }
+        ensures { (entries : Listed Entry) → completes_again entries unit.0 outer.now ≡ again → result ≡ may_be_admitted checked.now (central_of checked.now self.now).items entries unit.0 outer.now }
     {
-        self.items.may_admit(checked.chart(), unit, outer, pending)
+        self.items.may_admit(checked.chart(), unit, outer, again)
     }
 
     /// Takes one step, in which these entries come: each of them may be admitted where those before it are pending. Grows with

@@ -37,7 +37,7 @@ outputs_fit : (outputs : List Output) → AllByRecursion (λ o. o.var.0 < max_va
 outputs_fit [] below = tt
 outputs_fit (o ∷ outputs) below = (omega (arith, below.0), outputs_fit outputs below.1)
 
-outer_fits : (outer : Outer) → IsOuter chart_numbers outer → IsOuter any_numbers outer
+pub outer_fits : (outer : Outer) → IsOuter chart_numbers outer → IsOuter any_numbers outer
 outer_fits (Happen event) ranged = omega (arith, ranged)
 outer_fits (Complete item act outputs) ranged = (ranged.0, omega (arith, ranged.1), ranged.2, outputs_fit outputs ranged.3)
 

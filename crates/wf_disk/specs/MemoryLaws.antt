@@ -1,5 +1,5 @@
 -- Inner. What a disk in memory tells is lawful.
-use Rattle.std.specs.Prelude.{◌≡◌, ◌≢◌, ◌||◌, ℕ, zero, suc, ◌+◌, ◌≤◌, Bool, true, false, if◌then◌else◌, List, [], ◌∷◌, length, Some, unwrap_or}
+use Rattle.std.specs.Prelude.{◌≡◌, ◌≢◌, ◌||◌, ℕ, zero, suc, ◌≤◌, Bool, true, false, if◌then◌else◌, List, [], ◌∷◌, length, Some, unwrap_or}
 use mathlib.Core.Logic.{inr}
 use Rattle.std.proofs.Common.{refl, sym, ap, arith, ◌∙◌, true≢false}
 use Rattle.wf_disk.specs.Disk.{IsLawful}

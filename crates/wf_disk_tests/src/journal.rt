@@ -1,4 +1,8 @@
-//! A journal's bytes, what it starts on, and what stands after an arm.
+//! A journal's bytes, what it starts on, its room, and what stands after an arm.
+ghost use Rattle.std.specs.Prelude.{◌≡◌, ◌+◌, ◌*◌, ◌≤◌, length, false, IfOk};
+ghost use Rattle.wf_disk.specs.Memory.{told_of};
+ghost use Rattle.wf_journal.specs.Room.{UsesRoom};
+
 use std::test::Fail;
 use wf_disk::{Arm, Disk, MemDisk, Outcome};
 use wf_journal::{AppendFault, Journal, JournalRefused, StartFault};
@@ -9,7 +13,9 @@ const HEAD: [u8; 8] = [0x48, 1, 3, 0x74, 0x77, 0x6F, 1, 0x61];
 const ADMIT: [u8; 12] = [0x41, 0, 0, 0, 0, 0, 0, 0, 7, 0, 0, 1];
 
 /// A journal that was started on a disk.
-fn journal_on(rt: &HostRuntime, disk: MemDisk) -> Result<Journal<MemDisk>, Fail> {
+fn journal_on(rt: &HostRuntime, disk: MemDisk) -> Result<Journal<MemDisk>, Fail>
+    ensures { IfOk result (λ journal. UsesRoom (told_of disk) (told_of journal.disk) 1 1) }
+{
     match Journal::start(rt.alloc(), disk) {
         Ok(journal) => Ok(journal),
         Err(refused) => Err(Fail::from(refused.fault)),
@@ -97,6 +103,39 @@ fn bodies_are_written_and_read(rt: HostRuntime) -> Result<(), Fail> {
         0, 0, 0, 7, 0, 0, 1, 0,
     ];
     assert_eq!(rt; bytes_of(&rt, &mut disk)?.as_slice(), two);
+    Ok(())
+}
+
+/// A journal on a new disk, with room for two appends of at most so many bytes each.
+fn journal_with_room(rt: &HostRuntime, len: u32) -> Result<Journal<MemDisk>, Fail>
+    ensures own { IfOk result (λ journal. len ≤ journal.room) }
+    ensures disk { IfOk result (λ journal. (told_of journal.disk).has_room 4 (2 * (len + 6))) }
+{
+    let mut disk = MemDisk::new(rt.alloc());
+    disk.reserve(2 * (u64::from(len) + 6) + 1, 5)?;
+    let mut journal = journal_on(rt, disk)?;
+    journal.reserve(len)?;
+    Ok(journal)
+}
+
+/// Whether memory runs out in an append for which there is room.
+fn runs_out(journal: &mut Journal<MemDisk>, body: &[u8]) -> bool
+    requires own { length body.now ≤ journal.old.room }
+    requires disk { (told_of journal.old.disk).has_room 2 (length body.now + 6) }
+    ensures not { result ≡ false }
+    ensures own_kept { journal.old.room ≤ journal.new.room }
+    ensures uses { UsesRoom (told_of journal.old.disk) (told_of journal.new.disk) 2 (length body.now + 6) }
+{
+    matches!(journal.append(body), Err(AppendFault::NoMemory))
+}
+
+#[test]
+fn each_append_finds_the_room_that_was_made(rt: HostRuntime) -> Result<(), Fail> {
+    let mut journal = journal_with_room(&rt, 12)?;
+    assert!(rt; !runs_out(&mut journal, &HEAD));
+    assert!(rt; !runs_out(&mut journal, &ADMIT));
+    let mut body = List::new(rt.alloc());
+    assert_eq!(rt; journal.read(13, &mut body)?, Some(30));
     Ok(())
 }
 

@@ -1,11 +1,9 @@
 -- What transitions do, one action and one transition more.
-use Rattle.std.proofs.Common.{◌≡◌, ℕ, zero, suc, ◌+◌, ◌<◌, ◌==◌, ◌||◌, ◌&&◌, Bool, true, false, cond, List, [], ◌∷◌, ◌++◌, length, map, take, filter, filter_map, flat_map, get_or, refl, sym, ◌∙◌, ap, ap₂, arith}
-use Rattle.std.specs.List.{list_any, range_with_len, cons_option}
+use Rattle.std.proofs.Common.{◌≡◌, ℕ, suc, ◌+◌, ◌<◌, Bool, true, false, cond, List, [], ◌∷◌, ◌++◌, length, take, filter, filter_map, flat_map, get_or, sym, ◌∙◌, ap, ap₂, arith}
 use Rattle.std.proofs.lemmas.List.{take_more, append-nil, append_assoc, map-append, length-take}
 use Rattle.std.proofs.lemmas.List.Elements.{filter_map-append, filter_more}
 use Rattle.std.proofs.lemmas.Grind.{flat_map-append}
 use Rattle.wf_model.specs.declared.ids.EventId.{EventId}
-use Rattle.wf_model.specs.declared.ids.TransId.{TransId}
 use Rattle.wf_model.specs.declared.chart.Action.{Action}
 use Rattle.wf_model.specs.declared.chart.Action.TheVariants.{Assign, Raise, Start}
 use Rattle.wf_model.specs.declared.update.Write.{Write}

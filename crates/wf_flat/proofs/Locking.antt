@@ -1,8 +1,8 @@
 -- The run of all parts, one step more.
-use Rattle.std.proofs.Common.{◌≡◌, ℕ, zero, suc, ◌+◌, ◌*◌, ◌<◌, ◌≤◌, ◌==◌, nat_lt, eqb-true, cond, Bool, true, false, List, [], ◌∷◌, ◌++◌, All, map, length, get_or, set, refl, sym, ap, ap₂, ◌∙◌, subst, arith}
+use Rattle.std.proofs.Common.{◌≡◌, ℕ, zero, suc, ◌+◌, ◌<◌, ◌≤◌, ◌==◌, nat_lt, eqb-true, cond, Bool, true, false, List, [], ◌∷◌, ◌++◌, All, map, length, get_or, set, refl, sym, ap, ap₂, ◌∙◌, subst, arith}
 use Rattle.std.specs.List.{range_with_len}
 use Rattle.std.proofs.lemmas.Bool.Decides.{nat_tests}
-use Rattle.std.proofs.lemmas.List.FromFn.{length-range_with_len, length-map-range_with_len}
+use Rattle.std.proofs.lemmas.List.{get_or_default}
 use Rattle.std.proofs.lemmas.List.Elements.{All-map}
 use Rattle.wf_model.specs.Limits.{max_units, max_steps}
 use Rattle.wf_model.specs.declared.outer.Entry.{Entry}
@@ -30,13 +30,8 @@ row_from {A} (x ∷ xs) f a h =
     ap₂ (λ (y : A) (l : List A). y ∷ l) (sym (h 0 x (omega arith)) ∙ ap f here)
     (row_from xs f (a + 1) (λ k d lt. let e : a + 1 + k ≡ a + suc k = omega arith in ap f e ∙ h (suc k) d (omega arith)))
 
-same_at : {A : Type 0} (xs : List A) (k : ℕ) (d e : A) → k < length xs → get_or xs k d ≡ get_or xs k e
-same_at [] k d e lt = absurd (omega arith)
-same_at (x ∷ xs) zero d e lt = refl
-same_at (x ∷ xs) (suc k) d e lt = same_at xs k d e (omega arith)
-
 pub list_row : {A : Type 0} (xs : List A) (n : ℕ) (e : A) → length xs ≡ n → xs ≡ map (λ k. get_or xs k e) (range_with_len 0 n)
-list_row xs n e long = row_from xs (λ k. get_or xs k e) 0 (λ k d lt. let z : 0 + k ≡ k = omega arith in ap (λ (m : ℕ). get_or xs m e) z ∙ same_at xs k e d lt) ∙ ap (λ (m : ℕ). map (λ k. get_or xs k e) (range_with_len 0 m)) long
+list_row xs n e long = row_from xs (λ k. get_or xs k e) 0 (λ k d lt. let z : 0 + k ≡ k = omega arith in ap (λ (m : ℕ). get_or xs m e) z ∙ get_or_default xs k e d lt) ∙ ap (λ (m : ℕ). map (λ k. get_or xs k e) (range_with_len 0 m)) long
 
 -- two rows of one list
 pub rows_same : {A : Type 0} (f g : ℕ → A) (n k : ℕ) (xs : List A) → xs ≡ map f (range_with_len 0 n) → xs ≡ map g (range_with_len 0 n) → k < n → f k ≡ g k

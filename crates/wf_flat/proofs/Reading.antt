@@ -1,5 +1,5 @@
 -- What a part's transitions read of a view of the part is there, and what they do is bounded.
-use Rattle.std.proofs.Common.{◌≡◌, ℕ, ◌+◌, ◌<◌, ◌≤◌, ◌^◌, cond, Bool, true, false, List, [], ◌∷◌, All, filter, length, get_or, Option, Some, None, slice_get, refl, sym, ap, ◌∙◌, subst, arith}
+use Rattle.std.proofs.Common.{◌≡◌, ℕ, ◌<◌, ◌≤◌, cond, Bool, true, false, List, [], All, filter, length, get_or, Option, Some, None, slice_get, refl, sym, ap, ◌∙◌, subst, arith}
 use Rattle.std.specs.Prelude.{is_ok, IfSome}
 use Rattle.std.specs.Option.{option_map}
 use Rattle.std.proofs.lemmas.Option.{slice_get-map, slice_get-get_or}
@@ -12,7 +12,6 @@ use Rattle.wf_model.specs.declared.chart.Chart.{Chart}
 use Rattle.wf_model.specs.declared.chart.Transition.{Transition}
 use Rattle.wf_model.specs.Tree.{all_transitions}
 use Rattle.wf_model.specs.Sorts.{var_sort}
-use Rattle.wf_model.specs.Seen.{HasAll}
 use Rattle.wf_model.specs.Accepted.{IsAccepted}
 use Rattle.wf_semantics.proofs.Lists.{filter_mem}
 use Rattle.wf_semantics.proofs.Steps.{transition_mem}

@@ -5,7 +5,6 @@ use Rattle.std.specs.List.{list_any, range_with_len}
 use Rattle.wf_model.specs.Limits.{max_events}
 use Rattle.wf_model.specs.Ids.{event_id}
 use Rattle.wf_model.specs.declared.ids.StateId.{StateId}
-use Rattle.wf_model.specs.declared.ids.TransId.{TransId}
 use Rattle.wf_model.specs.declared.ids.EventId.{EventId}
 use Rattle.wf_model.specs.declared.value.Val.{Val}
 use Rattle.wf_model.specs.declared.expr.Fault.{Fault}
@@ -13,20 +12,18 @@ use Rattle.wf_model.specs.declared.chart.Action.{Action}
 use Rattle.wf_model.specs.declared.chart.Action.TheVariants.{Assign, Raise, Start}
 use Rattle.wf_model.specs.declared.outer.Outer.{Outer}
 use Rattle.wf_model.specs.declared.update.Write.{Write}
-use Rattle.wf_model.specs.declared.update.StartAt.{StartAt}
 use Rattle.wf_model.specs.declared.update.Update.{Update}
 use Rattle.wf_model.specs.Seen.{Seen}
 use Rattle.wf_model.specs.Values.{value_of}
 use Rattle.wf_model.proofs.Bools.{any_flat_map}
 use Rattle.wf_semantics.specs.Snapshot.{Snapshot, is_active}
-use Rattle.wf_semantics.specs.Effects.{action_raises, is_fault, starts_from}
+use Rattle.wf_semantics.specs.Effects.{action_raises, is_fault}
 use Rattle.wf_actions.specs.Writes.{merged}
-use Rattle.wf_actions.specs.Store.{write_of}
 use Rattle.wf_parts.specs.declared.data.Component.{Component}
 use Rattle.wf_parts.specs.declared.data.PartTransition.{PartTransition}
 use Rattle.wf_parts.specs.declared.data.PartData.{PartData}
 use Rattle.wf_parts.specs.Components.{is_in_after}
-use Rattle.wf_views.specs.OwnSteps.{differs, fires_in, flips_in, own_fired, is_raised_by, part_step}
+use Rattle.wf_views.specs.OwnSteps.{differs, fires_in, own_fired, is_raised_by, part_step}
 use Rattle.wf_flat.specs.Gathering.{fault_of, raises_of, ascending, gathered_of}
 use Rattle.wf_flat.specs.declared.gathered.Gathered.{Gathered}
 

@@ -1,4 +1,4 @@
--- What can be evaluated, and truths by number.
+-- Inner. What can be evaluated, and the tables of truths by number.
 use Rattle.std.specs.Prelude.{ℕ, ◌<◌, ◌^◌, ◌==◌, Bool, false, List, Option, length, find, unwrap_or, All, IsTrue, IfSome}
 use Rattle.std.specs.Option.{option_map_or}
 use Rattle.wf_model.specs.declared.expr.Expr.{Expr}

@@ -1,4 +1,4 @@
--- What transitions do as they fire, one after another.
+-- Inner. Ties what transitions are gathered to do to the definitions of effects.
 use Rattle.std.specs.Prelude.{ℕ, ◌++◌, ◌∷◌, ◌==◌, List, [], map, filter, filter_map, flat_map, Result, Ok, Err}
 use Rattle.std.specs.List.{list_any, range_with_len}
 use Rattle.wf_model.specs.Limits.{max_events}

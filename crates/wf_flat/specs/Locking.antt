@@ -1,8 +1,7 @@
--- Views that stand beside their parts, and how much is started.
+-- Inner. Views that stand beside their parts, and how much is started.
 use Rattle.std.specs.Prelude.{ℕ, ◌≡◌, ◌+◌, ◌*◌, ◌<◌, ◌≤◌, ◌^◌, List, All, map, length}
 use Rattle.std.specs.List.{range_with_len}
 use Rattle.wf_model.specs.Limits.{max_units, max_transitions, max_actions}
-use Rattle.wf_model.specs.declared.outer.Entry.{Entry}
 use Rattle.wf_model.specs.declared.update.Update.{Update}
 use Rattle.wf_parts.specs.declared.data.PartData.{PartData}
 use Rattle.wf_views.specs.Views.{View, count_now}

@@ -1,4 +1,4 @@
--- The snapshot that the tables of a step are.
+-- Inner. Ties the tables of a step to the snapshot that they are.
 use Rattle.wf_model.specs.Bits.{bit}
 use Rattle.wf_semantics.specs.Snapshot.{Snapshot}
 use Rattle.wf_flat.specs.declared.sighting.Sighting.{Sighting}

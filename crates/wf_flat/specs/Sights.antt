@@ -1,4 +1,4 @@
--- What tables show.
+-- Inner. Ties tables to what they show.
 use Rattle.std.specs.Prelude.{ℕ, Bool, List, Option, Some, None, if◌then◌else◌}
 use Rattle.std.specs.Option.{option_map}
 use Rattle.wf_model.specs.declared.value.Val.{Val}

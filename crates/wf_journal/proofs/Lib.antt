@@ -1,4 +1,4 @@
-mod Ends
+pub mod Ends
 mod Cuts
 mod Shapes
 mod Strokes

@@ -9,11 +9,13 @@
 #![tactic(auto)]
 
 mod admission;
+mod ending;
 mod laws;
 mod line;
 mod reply;
 
 pub use admission::{Admission, Place};
+pub use ending::Ending;
 pub use laws::{
     account_holds, act_grows, act_keeps, act_posts, hears_no_outcomes, posted_holds,
     records_are_few, shows_outcomes, sights_stay, sights_stay_to_end, taken_was_sent, updates_stay,

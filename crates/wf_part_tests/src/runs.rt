@@ -1,9 +1,8 @@
 //! Whether lists of entries are a run of a chart, which shares are asked for.
 ghost use Rattle.std.specs.Prelude.{◌≡◌, length, map, take, drop, ◌≤◌, [], IsTrue, IfOk, IfSome};
 ghost use Rattle.std.specs.List.{list_all, range_with_len};
-ghost use Rattle.wf_semantics.specs.Admission.{completes, is_pending, may_come, may_come_after};
+ghost use Rattle.wf_semantics.specs.Admission.{may_come, may_come_after};
 ghost use Rattle.wf_semantics.specs.Run.{next_state};
-ghost use Rattle.wf_activities.specs.Completing.{completes_again};
 ghost use Rattle.wf_central.specs.Kept.{central_of, IsOf};
 ghost use Rattle.wf_runs.specs.Runs.{IsRun, IsRunFrom};
 ghost use Rattle.wf_parts.specs.Parts.{part_of};
@@ -14,34 +13,9 @@ ghost use Rattle.wf_part_tests.specs.Runs.{IsSharedRun};
 use std::alloc::Global;
 use wf_central::CentralState;
 use wf_model::limits::MAX_STEPS;
-use wf_model::{Checked, Entry, List, NoMemory, Outer, StepNotes, UnitId, Update};
+use wf_model::{Checked, Entry, List, NoMemory, StepNotes, Update};
 use wf_parts::Part;
 use wf_projection::shares;
-
-// Whether one of the entries completes the item that an outer at the unit completes.
-fn completes_again(entries: &[Entry], unit: UnitId, outer: &Outer) -> bool
-    ensures { result ≡ completes_again entries.now unit.0 outer.now }
-{
-    match outer {
-        Outer::Happen(_) => false,
-        Outer::Complete { item, .. } => is_pending(entries, unit, *item),
-    }
-}
-
-fn completes(outer: &Outer, number: u32) -> bool
-    ensures { result ≡ completes number outer.now }
-{
-    match outer {
-        Outer::Happen(_) => false,
-        Outer::Complete { item, .. } => *item == number,
-    }
-}
-
-fn is_pending(entries: &[Entry], unit: UnitId, number: u32) -> bool
-    ensures { result ≡ is_pending entries.now unit.0 number }
-{
-    entries.iter().any(|entry| entry.unit.0 == unit.0 && completes(&entry.outer, number))
-}
 
 // Whether the entries from this place on may come behind those before it.
 #[tactic(auto, using(crate::proofs::Coming::none_left, crate::proofs::Coming::one_comes))]
@@ -54,8 +28,7 @@ fn may_come_from(checked: &Checked, state: &CentralState, entries: &[Entry], at:
         return true;
     }
     let Entry { unit, outer } = &entries[at];
-    let pending = completes_again(&entries[..at], *unit, outer);
-    state.may_admit(checked, *unit, outer, pending).is_ok()
+    state.may_admit(checked, &entries[..at], *unit, outer).is_ok()
         && may_come_from(checked, state, entries, at + 1)
 }
 

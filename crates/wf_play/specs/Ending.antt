@@ -8,8 +8,8 @@ use Rattle.wf_model.specs.declared.ids.UnitId.{UnitId}
 use Rattle.wf_model.specs.declared.chart.Chart.{Chart}
 use Rattle.wf_words.specs.Names.{unit_name}
 use Rattle.wf_machine.specs.declared.admission.Place.{Place}
+use Rattle.wf_machine.specs.declared.ending.Ending.{Ending}
 use Rattle.wf_machine.specs.declared.reply.Sight.{Sight}
-use Rattle.wf_machine.specs.Runs.{Ending}
 use Rattle.wf_play.specs.Replies.{admitted_text, recovered_text, sight_text}
 
 -- U recovered taken K admitted N
@@ -21,14 +21,14 @@ abbrev pub unit_line : Chart → Sight → List ℕ
 unit_line chart sight =
     unit_name chart sight.unit ++ admitted_text sight.admitted ++ codes " " ++ sight_text chart sight ++ codes "\n"
 
--- ` U:n` for each admission
-abbrev pub places_text : Chart → List Place → List ℕ
-places_text chart places = flat_map (λ place. codes " " ++ unit_name chart place.unit ++ codes ":" ++ decimal place.number) places
+-- ` U:n` for an admission
+abbrev pub place_text : Chart → Place → List ℕ
+place_text chart place = codes " " ++ unit_name chart place.unit ++ codes ":" ++ decimal place.number
 
 -- step K and its admissions; a step without any has no line
 abbrev pub step_line : Chart → ℕ × List Place → List ℕ
 step_line chart (step, []) = []
-step_line chart (step, place ∷ places) = codes "step " ++ decimal step ++ places_text chart (place ∷ places) ++ codes "\n"
+step_line chart (step, place ∷ places) = codes "step " ++ decimal step ++ flat_map (place_text chart) (place ∷ places) ++ codes "\n"
 
 -- the lines behind `end`: those of units that were recovered, those of all units, and those of steps from 1 on
 unfoldable pub ending_text : Chart → Ending → List ℕ

@@ -9,9 +9,11 @@
 //!   `specs/Replies.antt`.
 #![tactic(auto)]
 
+mod ending;
 mod lines;
 mod reply;
 mod script;
 
+pub use ending::append_ending;
 pub use reply::append_reply;
 pub use script::read_play;

@@ -22,7 +22,7 @@ fn append_counted(text: &mut Bytes, words: &[u8], number: u64) -> Result<(), NoM
     append_number(text, number)
 }
 
-fn append_sight(
+pub(crate) fn append_sight(
     alloc: Global,
     text: &mut Bytes,
     chart: &Chart,
@@ -48,13 +48,13 @@ fn append_taken(text: &mut Bytes, taken: u32) -> Result<(), NoMemory>
 }
 
 #[tactic(auto, unfolding(crate::specs::Replies::admitted_text))]
-fn append_admitted(text: &mut Bytes, admitted: u64) -> Result<(), NoMemory>
+pub(crate) fn append_admitted(text: &mut Bytes, admitted: u64) -> Result<(), NoMemory>
     ensures { OnOk result (text.new ≡ text.old ++ spec.admitted_text admitted) }
 {
     append_counted(text, b" admitted ", admitted)
 }
 
-fn append_recovered(text: &mut Bytes, taken: u32, admitted: u64) -> Result<(), NoMemory>
+pub(crate) fn append_recovered(text: &mut Bytes, taken: u32, admitted: u64) -> Result<(), NoMemory>
     ensures { OnOk result (text.new ≡ text.old ++ spec.recovered_text taken admitted) }
 {
     text.append(b"recovered")?;

@@ -1,4 +1,4 @@
--- Of other calls. The canonical text of a chart.
+-- The canonical text of a chart.
 use Rattle.std.specs.Prelude.{ℕ, ◌++◌, List, drop, flat_map}
 use Rattle.wf_model.specs.Limits.{max_depth}
 use Rattle.wf_model.specs.declared.chart.Chart.{Chart}

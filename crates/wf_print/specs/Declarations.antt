@@ -1,4 +1,4 @@
--- Of other calls. The lines of declarations.
+-- The lines of declarations.
 use Rattle.std.specs.Prelude.{ℕ, ◌++◌, List, [], Option, None, Some}
 use lib.Chars.{codes}
 use Rattle.wf_model.specs.declared.ids.UnitId.{UnitId}

@@ -1,4 +1,4 @@
--- Of other calls. The text of expressions: every operator in parentheses.
+-- The text of expressions: every operator in parentheses.
 use Rattle.std.specs.Prelude.{ℕ, ◌++◌, List}
 use Rattle.std.specs.Fmt.{decimal}
 use lib.Chars.{codes}

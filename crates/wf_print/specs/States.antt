@@ -1,4 +1,4 @@
--- Of other calls. The nested text of states.
+-- The nested text of states.
 use Rattle.std.specs.Prelude.{ℕ, zero, suc, ◌+◌, ◌*◌, ◌==◌, ◌++◌, Bool, true, false, List, [], length, map, flat_map, slice_get, replicate}
 use lib.Chars.{codes}
 use Rattle.wf_model.specs.declared.chart.Chart.{Chart}

@@ -1,4 +1,4 @@
--- Of other calls. The lines of transitions.
+-- The lines of transitions.
 use Rattle.std.specs.Prelude.{ℕ, ◌++◌, List, Option}
 use lib.Chars.{codes}
 use Rattle.wf_model.specs.declared.ids.EventId.{EventId}

@@ -1,4 +1,4 @@
--- Of other calls. The words that lines are made of.
+-- The words that lines are made of.
 use Rattle.std.specs.Prelude.{ℕ, suc, ◌++◌, Bool, List, [], ◌∷◌, flat_map, if◌then◌else◌, pos, negsuc}
 use Rattle.std.specs.Fmt.{decimal}
 use lib.Chars.{codes}

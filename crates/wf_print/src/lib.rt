@@ -4,7 +4,7 @@
 //!   of memory. Laws say, if its texts are of text characters, that it is printable, that each line
 //!   ends with LF, and that none is empty or begins with `-`.
 //! - Doesn't say: what the text means; that is `wf_readback`.
-//! - A caller: `wf_calls` prints charts that it has read. No command does.
+//! - A caller: `wf_gen` prints the chart that it makes of a number.
 //! - A change of the canonical text begins in the definition of the line.
 #![tactic(auto)]
 

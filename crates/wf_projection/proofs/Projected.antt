@@ -1,13 +1,11 @@
 -- The run of all parts is the units' shares.
-use Rattle.std.proofs.Common.{◌≡◌, ℕ, ◌≤◌, ◌<◌, true, List, [], map, length, sym, ap, ◌∙◌, arith}
-use Rattle.std.specs.Prelude.{nat_le}
+use Rattle.std.proofs.Common.{◌≡◌, ℕ, ◌≤◌, true, List, [], map, length, sym, ap, ◌∙◌, arith}
 use Rattle.std.specs.List.{list_all, range_with_len}
 use Rattle.std.proofs.lemmas.Bool.{leb-true}
 use Rattle.std.proofs.lemmas.List.FromFn.{length-map-range_with_len}
 use Rattle.wf_model.specs.Limits.{max_units}
 use Rattle.wf_model.specs.declared.chart.Chart.{Chart}
 use Rattle.wf_model.specs.declared.outer.Entry.{Entry}
-use Rattle.wf_model.specs.declared.update.Update.{Update}
 use Rattle.wf_model.specs.Accepted.{IsAccepted, is_small}
 use Rattle.wf_model.proofs.Rows.{row_agree}
 use Rattle.wf_semantics.proofs.Facts.{rules}

@@ -91,7 +91,7 @@ within_answered command input = chart_answered command (script_part input) (char
 -- such an answer is due
 due_answer : (words : List (List ℕ)) (before after : Ends) (s : Status) (text : List ℕ) → IsAnswered s → Answers words before after (answer s text)
     → IsAtEnd after.left → IsDue words before after s text
-due_answer words before after status.Ok text is a end = (a, end)
+due_answer words before after status.Ok text is a end = inl (a, end)
 due_answer words before after status.ChartRefused text is a end = (a, end)
 due_answer words before after status.ScriptRefused text is a end = (a, end)
 due_answer words before after status.Limit text is a end = (a, inr end)

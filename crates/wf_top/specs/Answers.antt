@@ -1,11 +1,14 @@
 -- What the program has to answer: a status, and a text.
-use Rattle.std.specs.Prelude.{ℕ, List, [], ◌∷◌, nat_le, length, Option, Some, None, Result, Ok, Err, if◌then◌else◌}
+use Rattle.std.specs.Prelude.{ℕ, Bool, ◌&&◌, List, [], ◌∷◌, nat_le, length, Option, Some, None, Result, Ok, Err, if◌then◌else◌}
+use Rattle.std.specs.List.{list_all}
 use Rattle.std.specs.Str.{bytes_eq}
 use lib.Chars.{codes}
+use Rattle.wf_model.specs.Names.{is_digit}
 use Rattle.wf_model.specs.Limits.{max_input, max_lines, max_report}
 use Rattle.wf_model.specs.declared.chart.Chart.{Chart}
 use Rattle.wf_model.specs.declared.status.Status.{Status}
 use Rattle.wf_model.specs.declared.status.Status.TheVariants as status
+use Rattle.wf_cursor.specs.Values.{number_up_to}
 use Rattle.wf_text.specs.declared.chart_fault.ChartFault.{ChartFault}
 use Rattle.wf_text.specs.Text.{chart_of}
 use Rattle.wf_check.specs.declared.fault.CheckFault.{CheckFault}
@@ -38,6 +41,21 @@ abbrev pub command_of : List (List ℕ) → Option Command
 command_of [] = None
 command_of (word ∷ []) = command_named word
 command_of (word ∷ other ∷ more) = None
+
+-- 1 to 10 digits
+abbrev pub is_number : List ℕ → Bool
+is_number word = nat_le 1 (length word) && nat_le (length word) 10 && list_all is_digit word
+
+-- the number that they write, if it is at most 4294967295
+unfoldable pub written_number : List ℕ → Option ℕ
+written_number word = if is_number word then number_up_to 4294967295 word else None
+
+-- the number that input is to be generated from: the words are `gen` and that number
+abbrev pub gen_number : List (List ℕ) → Option ℕ
+gen_number [] = None
+gen_number (word ∷ []) = None
+gen_number (word ∷ number ∷ []) = if bytes_eq word (codes "gen") then written_number number else None
+gen_number (word ∷ number ∷ other ∷ more) = None
 
 -- ---- charts
 

@@ -8,7 +8,8 @@ use Rattle.wf_model.specs.Faults.{Rose}
 use Rattle.wf_refusals.specs.Lines.{refusal}
 use Rattle.wf_top.specs.declared.command.Command.{Command}
 use Rattle.wf_top.specs.declared.answer.Answer.{Answer}
-use Rattle.wf_top.specs.Answers.{answer, answer_of, command_of}
+use Rattle.wf_gen.specs.GenText.{gen_text}
+use Rattle.wf_top.specs.Answers.{answer, answer_of, command_of, gen_number}
 
 -- source and sink at one moment: the bytes that the source has left and those that the sink holds, where they tell, and how
 -- often each has failed
@@ -30,6 +31,13 @@ pub record Answers (words : List (List ℕ)) (before after : Ends) (a : Answer) 
   pub faults : after.read_faults ≡ before.read_faults
   pub answer : IfSome before.left (λ input. answer_of command input ≡ a)
 
+-- the words name a number, the text is the input that is generated from it, and nothing was read
+pub record IsGenerated (words : List (List ℕ)) (before after : Ends) (text : List ℕ) : Type 0 where
+  pub number : ℕ
+  pub named : gen_number words ≡ Some number
+  pub made : text ≡ gen_text number
+  pub unread : IsUnread before after
+
 -- the words name a command, and a read failed
 pub record IsUnreadable (words : List (List ℕ)) (before after : Ends) : Type 0 where
   pub command : Command
@@ -39,11 +47,11 @@ pub record IsUnreadable (words : List (List ℕ)) (before after : Ends) : Type 0
 -- This status with this text is due, by the words, by the bytes that the source had left, and by whether a read failed. An
 -- answer to them is due once the source is read to its end; that they are too many may be found before.
 abbrev pub IsDue : List (List ℕ) → Ends → Ends → Status → List ℕ → Type 0
-IsDue words before after status.Ok text = Answers words before after (answer status.Ok text) × IsAtEnd after.left
+IsDue words before after status.Ok text = (Answers words before after (answer status.Ok text) × IsAtEnd after.left) ⊎ IsGenerated words before after text
 IsDue words before after status.ChartRefused text = Answers words before after (answer status.ChartRefused text) × IsAtEnd after.left
 IsDue words before after status.ScriptRefused text = Answers words before after (answer status.ScriptRefused text) × IsAtEnd after.left
 IsDue words before after status.Limit text = Answers words before after (answer status.Limit text) × ((text ≡ refusal (codes "limit input")) ⊎ IsAtEnd after.left)
-IsDue words before after status.Words text = (command_of words ≡ None) × IsUnread before after × (text ≡ refusal (codes "words"))
+IsDue words before after status.Words text = (command_of words ≡ None) × (gen_number words ≡ None) × IsUnread before after × (text ≡ refusal (codes "words"))
 IsDue words before after status.ReadFault text = IsUnreadable words before after × (text ≡ refusal (codes "read"))
 IsDue words before after status.WriteFault text = ⊥
 IsDue words before after status.NoMemory text = ⊥

@@ -1,10 +1,13 @@
 //! The commands.
 ghost use Rattle.std.specs.Prelude.{◌≡◌};
+ghost use Rattle.std.specs.List.{list_all};
+ghost use Rattle.wf_model.specs.Names.{is_digit};
 ghost use Rattle.wf_top.specs.Answers as spec;
 
-use wf_model::Bytes;
+use wf_cursor::number_up_to;
+use wf_model::{Bytes, is_digit};
 
-/// What the words of a run ask for.
+/// What the words of a run ask of its input.
 #[derive(Clone, Copy)]
 pub enum Command {
     /// Check the chart of the input.
@@ -35,6 +38,43 @@ pub fn command_of(words: &[Bytes]) -> Option<Command>
 {
     match words {
         [word] => command_named(word.as_slice()),
+        _ => None,
+    }
+}
+
+fn are_digits(word: &[u8]) -> bool
+    ensures { result ≡ list_all is_digit word.now }
+{
+    word.iter().all(|byte| is_digit(*byte))
+}
+
+// Whether the word is 1 to 10 digits.
+fn is_number(word: &[u8]) -> bool
+    ensures { result ≡ spec.is_number word.now }
+{
+    1 <= word.len() && word.len() <= 10 && are_digits(word)
+}
+
+// The number that 1 to 10 digits write, if it is at most 4294967295.
+#[tactic(auto, unfolding(crate::specs::Answers::written_number))]
+fn written_number(word: &[u8]) -> Option<u32>
+    ensures { result ≡ spec.written_number word.now }
+{
+    if !is_number(word) {
+        return None;
+    }
+    match number_up_to(4_294_967_295, word) {
+        Some(number) => Some(number as u32),
+        None => None,
+    }
+}
+
+/// The number that input is to be generated from, if the words are `gen` and a number.
+pub fn gen_number(words: &[Bytes]) -> Option<u32>
+    ensures { result ≡ spec.gen_number words.now }
+{
+    match words {
+        [word, number] if word.as_slice() == b"gen".as_slice() => written_number(number.as_slice()),
         _ => None,
     }
 }

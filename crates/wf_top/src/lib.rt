@@ -2,8 +2,9 @@
 //! clock.
 //!
 //! - Promises: at status `Ok` the source was read to its end, and what was written is the text that
-//!   the definitions give for these bytes. Each refusal has the status and the line that they give.
-//!   A fault of reading or writing is reported only if the source or the sink counted one.
+//!   the definitions give for these bytes; for `gen N` nothing was read, and it is the text for N.
+//!   Each refusal has the status and the line that the definitions give. A fault of reading or
+//!   writing is reported only if the source or the sink counted one.
 //! - Doesn't say: that a run ever ends with `Ok`, since memory may always run out.
 //! - A caller: `main` of the crate `mentor`.
 //! - A new command begins here: its word in `specs/Answers.antt`, and what it may answer.

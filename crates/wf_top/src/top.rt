@@ -6,8 +6,9 @@ ghost use Rattle.wf_top.specs.Top.{MayAnswer};
 ghost use Rattle.wf_model.specs.declared.status.Status.TheVariants.{WriteFault};
 
 use crate::answer::answer_to;
-use crate::command::command_of;
+use crate::command::{command_of, gen_number};
 use std::alloc::Global;
+use wf_gen::gen_text;
 use wf_io::{Clock, InFault, Sink, Source, read_all, write_all};
 use wf_model::limits::MAX_INPUT;
 use wf_model::{Bytes, List, NoMemory, Status};
@@ -26,7 +27,8 @@ fn finish<K: Sink>(sink: &mut K, status: Status, text: &[u8]) -> Status
 
 /// Does what the words say over all that the source has left, writes to the sink, and tells how it ended. The word
 /// `check` checks the chart of an input, the word `central` runs its script on the chart, the word `split` cuts the chart
-/// into the parts of its units. No command reads the clock.
+/// into the parts of its units. The words `gen N` write the input that is generated from the number N, and read nothing. No
+/// command reads the clock.
 ///
 /// Grows with the input, with what is written, and with the states times their depth; a step of a run grows with the
 /// states times their depth and with the transitions; `split` grows with the states and with the transitions, each times
@@ -44,6 +46,12 @@ pub fn mentor<S: Source, K: Sink, C: Clock>(
         (record { left = S.left source.new; read_faults = S.faults source.new; held = K.held sink.new; write_faults = K.faults sink.new })
         result }
 {
+    if let Some(number) = gen_number(words.as_slice()) {
+        return match gen_text(alloc, number) {
+            Ok(text) => finish(sink, Status::Ok, text.as_slice()),
+            Err(NoMemory) => Status::NoMemory,
+        };
+    }
     let Some(command) = command_of(words.as_slice()) else {
         return finish(sink, Status::Words, b"refused words\n");
     };

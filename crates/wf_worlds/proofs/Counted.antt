@@ -26,7 +26,7 @@ use Rattle.wf_owns.proofs.Ranged.{own_starts_few, length_append, filter_short}
 use Rattle.wf_owns.proofs.Sorting.{all_imply}
 
 -- few starts in each, few in all
-starts_bound : (updates : List Update) → list_all starts_few updates ≡ true → length (starts_in updates) ≤ max_starts * length updates
+pub starts_bound : (updates : List Update) → list_all starts_few updates ≡ true → length (starts_in updates) ≤ max_starts * length updates
 starts_bound [] h = omega arith
 starts_bound (x ∷ updates) h =
     let a = and_both (starts_few x) (list_all starts_few updates) h in

@@ -11,6 +11,7 @@ use Rattle.wf_model.specs.declared.chart.Chart.{Chart}
 use Rattle.wf_model.specs.declared.outer.Outer.{Outer}
 use Rattle.wf_model.specs.declared.outer.Outer.TheVariants.{Happen, Complete}
 use Rattle.wf_model.specs.declared.update.Update.{Update}
+use Rattle.wf_parts.specs.declared.data.PartData.{PartData}
 use Rattle.wf_model.proofs.Bools.{and_both, and_true}
 use Rattle.wf_semantics.proofs.Children.{lt_or_ge}
 use Rattle.wf_parts.specs.Parts.{part_of}
@@ -95,11 +96,11 @@ pub range_push : (a n : ℕ) → range_with_len a n ++ (a + n) ∷ [] ≡ range_
 range_push a zero = ap (λ (k : ℕ). k ∷ []) (let q : a + 0 ≡ a = omega arith in q)
 range_push a (suc n) = ap (λ (l : List ℕ). a ∷ l) (ap (λ (k : ℕ). range_with_len (a + 1) n ++ k ∷ []) (let q : a + suc n ≡ a + 1 + n = omega arith in q) ∙ range_push (a + 1) n)
 
-items_on : (chart : Chart) (u : ℕ) (h g : History) → GoesOn h g → Fits h → (j : ℕ) → j ≤ taken h → item_acts (part_of chart u) g j ≡ item_acts (part_of chart u) h j
+pub items_on : (part : PartData) (h g : History) → GoesOn h g → Fits h → (j : ℕ) → j ≤ taken h → item_acts part g j ≡ item_acts part h j
 unfolding item_acts
-items_on chart u h g on fits zero l = refl
-items_on chart u h g on fits (suc j) l = ap₂ (λ (xs ys : List ActId). xs ++ ys) (items_on chart u h g on fits j (omega arith))
-    (ap₂ (λ (ins : List Update) (update : Update). new_acts (part_of chart u) (insert ins (part_of chart u).unit.0 update)) (inputs_on h g on fits j (omega arith)) (update_on h g on fits (part_of chart u) (suc j) (omega arith)))
+items_on part h g on fits zero l = refl
+items_on part h g on fits (suc j) l = ap₂ (λ (xs ys : List ActId). xs ++ ys) (items_on part h g on fits j (omega arith))
+    (ap₂ (λ (ins : List Update) (update : Update). new_acts part (insert ins part.unit.0 update)) (inputs_on h g on fits j (omega arith)) (update_on h g on fits part (suc j) (omega arith)))
 
 -- AN ADMISSION
 
@@ -107,9 +108,9 @@ pub admit_keeps : AdmitKeeps
 admit_keeps chart u h a ok fits g may = record {
   at_unit = ap (list_all (is_at_unit chart u)) both ∙ all_join (is_at_unit chart u) (outers h.admissions) (a.outer ∷ []) g.at_unit (and_true (is_at_unit chart u a.outer) true allowed.0 refl);
   items = ap (list_all has_item) both ∙ all_join has_item (outers h.admissions) (a.outer ∷ []) g.items (and_true (has_item a.outer) true allowed.1 refl);
-  there = λ j l. ap₂ (λ (acts : List ActId) (os : List Outer). list_all (is_there acts) os) (items_on chart u h new on fits j (omega arith)) (sealed_on h new on fits (suc j) (omega arith)) ∙ g.there j l;
+  there = λ j l. ap₂ (λ (acts : List ActId) (os : List Outer). list_all (is_there acts) os) (items_on (part_of chart u) h new on fits j (omega arith)) (sealed_on h new on fits (suc j) (omega arith)) ∙ g.there j l;
   waiting =
-      ap₂ (λ (acts : List ActId) (os : List Outer). list_all (is_there acts) os) (items_on chart u h new on fits (taken h) (omega arith)) waits
+      ap₂ (λ (acts : List ActId) (os : List Outer). list_all (is_there acts) os) (items_on (part_of chart u) h new on fits (taken h) (omega arith)) waits
       ∙ all_join (is_there (item_acts (part_of chart u) h (taken h))) (waiting_of h) (a.outer ∷ []) g.waiting (and_true (is_there (item_acts (part_of chart u) h (taken h)) a.outer) true allowed.2 refl);
   once = ap (are_first []) both ∙ first_push [] (outers h.admissions) a.outer g.once allowed.3;
   steps = g.steps;
@@ -174,12 +175,12 @@ turn_keeps chart u h updates fits g = record {
 
     was : list_all (is_there (item_acts (part_of chart u) (turned h updates) (taken h))) (outers (take (min max_sealed (unsealed h)) (drop (sum (seals h)) h.admissions)) ++ outers (drop (min max_sealed (unsealed h)) (drop (sum (seals h)) h.admissions))) ≡ true
     was =
-        ap₂ (λ (acts : List ActId) (os : List Outer). list_all (is_there acts) os) (items_on chart u h new on fits (taken h) (omega arith)) (sym (split_outers c (drop (sum (seals h)) h.admissions)))
+        ap₂ (λ (acts : List ActId) (os : List Outer). list_all (is_there acts) os) (items_on (part_of chart u) h new on fits (taken h) (omega arith)) (sym (split_outers c (drop (sum (seals h)) h.admissions)))
         ∙ g.waiting
 
     there : (j : ℕ) → j < taken (turned h updates) → list_all (is_there (item_acts (part_of chart u) (turned h updates) j)) (sealed_by (turned h updates) (suc j)) ≡ true
     there j l = elim (lt_or_ge j (taken h)) [
-      | inl k ↦ ap₂ (λ (acts : List ActId) (os : List Outer). list_all (is_there acts) os) (items_on chart u h new on fits j (omega arith)) (sealed_on h new on fits (suc j) (omega arith)) ∙ g.there j k
+      | inl k ↦ ap₂ (λ (acts : List ActId) (os : List Outer). list_all (is_there acts) os) (items_on (part_of chart u) h new on fits j (omega arith)) (sealed_on h new on fits (suc j) (omega arith)) ∙ g.there j k
       | inr k ↦ let e : j ≡ taken h = omega (arith, turn_takes h updates) in
           ap (λ (i : ℕ). list_all (is_there (item_acts (part_of chart u) new i)) (sealed_by new (suc i))) e
           ∙ ap (list_all (is_there (item_acts (part_of chart u) new (taken h)))) last_sealed

@@ -85,7 +85,7 @@ cut_few known update h =
     le-leb (length (filter (λ (s : StartAt). known.acts s.act.0) update.starts)) max_starts (omega (arith, a, b))
 
 -- a list without one of its numbers is shorter
-without : (u a n : ℕ) → a ≤ u → u < a + n → length (filter (λ v. not (v == u)) (range_with_len a n)) < n
+pub without : (u a n : ℕ) → a ≤ u → u < a + n → length (filter (λ v. not (v == u)) (range_with_len a n)) < n
 without u a zero l k = absurd (omega (arith, l, k))
 without u a (suc n) l k = go (a == u) refl (λ ne. without u (a + 1) n (omega (arith, l, ne)) (omega (arith, k)))
   where

@@ -4,7 +4,7 @@ use Rattle.wf_semantics.proofs.Facts.{chart_of}
 use Rattle.wf_semantics.proofs.Scopes.{scope_facts}
 use Rattle.wf_semantics.proofs.Places.{above_low}
 use Rattle.wf_model.proofs.Rows.{row_len}
-use Rattle.wf_central.specs.Passes.{chosen_from}
+use Rattle.wf_central.proofs.Choosing.{chosen_from}
 use Rattle.wf_central.proofs.Choosing.{passed_over, taken_up, none_yet, all_chosen}
 use Rattle.wf_central.proofs.passes.chosen.Goals as goal
 

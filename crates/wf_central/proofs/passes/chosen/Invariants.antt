@@ -1,6 +1,6 @@
 use Rattle.std.proofs.Common.{◌≡◌, ◌≤◌, map, length}
 use Rattle.wf_model.specs.Tree.{all_states}
-use Rattle.wf_central.specs.Passes.{chosen_from}
+use Rattle.wf_central.proofs.Choosing.{chosen_from}
 use Rattle.wf_central.proofs.passes.chosen.Given as goal
 
 abbrev pub invariant-loop-t : goal.invariant-loop-t

@@ -1,4 +1,4 @@
-use Rattle.std.proofs.Common.{◌∙◌, ◌&&◌, not, Bool, List, ap, ap₂}
+use Rattle.std.proofs.Common.{◌∙◌, ◌&&◌, not, Bool, List, ap₂}
 use Rattle.std.specs.List.{list_any}
 use Rattle.wf_model.specs.declared.ids.TransId.{TransId}
 use Rattle.wf_parts.specs.declared.data.PartTransition.{PartTransition}

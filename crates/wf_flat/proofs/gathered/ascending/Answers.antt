@@ -1,4 +1,4 @@
-use Rattle.std.proofs.Common.{◌≡◌, ◌==◌, ◌∙◌, ℕ, Bool, List, ap, sym}
+use Rattle.std.proofs.Common.{◌==◌, ◌∙◌, ℕ, Bool, ap, sym}
 use Rattle.std.specs.List.{list_any}
 use Rattle.wf_model.specs.Ids.{event_id}
 use Rattle.wf_model.specs.declared.ids.EventId.{EventId}

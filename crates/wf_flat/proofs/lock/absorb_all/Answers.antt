@@ -1,8 +1,6 @@
-use Rattle.std.proofs.Common.{◌≡◌, ◌∙◌, ℕ, ◌+◌, ◌<◌, ◌≤◌, ◌≢◌, length, map, refl, sym, ap, subst, arith}
+use Rattle.std.proofs.Common.{◌∙◌, ◌<◌, ◌≢◌, length, refl, sym, subst, arith}
 use Rattle.std.proofs.lemmas.List.{length-set, get_or-set_other}
 use Rattle.wf_model.proofs.Rows.{row_at}
-use Rattle.wf_parts.specs.declared.data.PartData.{PartData}
-use Rattle.wf_views.specs.Views.{View}
 use Rattle.wf_views.specs.Absorbing.{absorbed}
 use Rattle.wf_flat.specs.Locking.{HasRoomFor}
 use Rattle.wf_flat.proofs.Locking.{none_yet, one_more, all_done}

@@ -1,4 +1,4 @@
-use Rattle.std.proofs.Common.{◌≡◌, ◌∷◌, ℕ, All, length, map}
+use Rattle.std.proofs.Common.{◌≡◌, ℕ, All, length, map}
 use Rattle.std.specs.List.{range_with_len}
 use Rattle.wf_parts.specs.declared.data.PartData.{PartData}
 use Rattle.wf_views.specs.Views.{View}

@@ -2,7 +2,6 @@ use Rattle.std.proofs.Common.{◌≡◌, ◌∙◌, ◌<◌, ◌+◌, ℕ, suc, 
 use Rattle.std.specs.List.{range_with_len}
 use Rattle.wf_model.specs.Limits.{max_steps}
 use Rattle.wf_model.specs.declared.update.Update.{Update}
-use Rattle.wf_views.specs.Views.{View}
 use Rattle.wf_lockstep.specs.Shares.{entries_at}
 use Rattle.wf_lockstep.specs.Lock.{lock_update, outers_by}
 use Rattle.wf_views.specs.Absorbing.{absorbed}

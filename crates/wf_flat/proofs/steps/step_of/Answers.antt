@@ -1,4 +1,4 @@
-use Rattle.std.proofs.Common.{◌≡◌, ◌∙◌, ◌&&◌, List, map, filter, ap, sym}
+use Rattle.std.proofs.Common.{◌∙◌, ◌&&◌, List, map, filter, ap, sym}
 use Rattle.wf_parts.specs.declared.data.Component.{Component}
 use Rattle.wf_parts.specs.declared.data.PartTransition.{PartTransition}
 use Rattle.wf_parts.specs.Components.{is_in_after}

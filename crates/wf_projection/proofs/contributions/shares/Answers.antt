@@ -1,8 +1,7 @@
-use Rattle.std.proofs.Common.{◌≡◌, ◌∙◌, List, map, length, sym, ap, arith}
+use Rattle.std.proofs.Common.{◌≡◌, ◌∙◌, map, length, sym, ap, arith}
 use Rattle.std.specs.List.{range_with_len}
 use Rattle.std.proofs.lemmas.Result.{IfOk-weaker}
 use Rattle.wf_model.specs.declared.chart.Chart.{Chart}
-use Rattle.wf_model.specs.declared.update.Update.{Update}
 use Rattle.wf_parts.specs.Parts.{part_of}
 use Rattle.wf_lockstep.specs.Shares.{share_of}
 use Rattle.wf_lockstep.specs.Lock.{lock_update, outers_by}

@@ -15,7 +15,7 @@ returns-in_ok-push-in-Ok-clause-of c =
     let pushed : c.push.new.self ≡ pending ++ entry c.args.outer.now ∷ [] =
     c.in_ok-push-in-Ok.ensures.ok ∙ ap (λ o. pending ++ entry o ∷ []) c.in_ok-outer-in-Ok.ensures in
     let admitted : is_ok (may_be_admitted chart central.items pending c.args.unit.0 c.args.outer.now) ≡ true =
-    sym (ap is_ok (c.in-Ok.ensures pending (sym c.completes-pending.ensures))) in
+    sym (ap is_ok (c.in-Ok.ensures pending (sym c.completes-again.ensures))) in
     record {
       of = c.requires.of;
       come = subst (λ (ps : List Entry). may_come chart central.items ps ≡ true) (sym pushed) (may_come-more chart central pending (entry c.args.outer.now) c.requires.come admitted);

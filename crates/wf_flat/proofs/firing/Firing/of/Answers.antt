@@ -1,9 +1,6 @@
-use Rattle.std.proofs.Common.{◌≡◌, ◌∙◌, ◌&&◌, not, ℕ, Bool, List, map, ap}
-use Rattle.std.specs.List.{list_any}
-use Rattle.wf_model.specs.Bits.{bit}
-use Rattle.wf_parts.specs.declared.data.PartTransition.{PartTransition}
+use Rattle.std.proofs.Common.{◌≡◌, ◌∙◌, map, ap}
 use Rattle.wf_views.specs.OwnSteps.{is_ready_in, is_fired_in}
-use Rattle.wf_flat.specs.Firing.{holds, says_of}
+use Rattle.wf_flat.specs.Firing.{says_of}
 use Rattle.wf_flat.specs.Sighted.{shown_by}
 use Rattle.wf_flat.proofs.Loops.{fired_by_place}
 use Rattle.wf_flat.proofs.firing.Firing.of.Goals as goal

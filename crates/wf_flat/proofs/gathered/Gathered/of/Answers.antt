@@ -1,4 +1,4 @@
-use Rattle.std.proofs.Common.{◌≡◌, ◌&&◌, ◌∙◌, Bool, false, List, filter, take, sym, ap, subst}
+use Rattle.std.proofs.Common.{◌&&◌, ◌∙◌, Bool, List, filter, take, sym, ap, subst}
 use Rattle.wf_parts.specs.declared.data.PartTransition.{PartTransition}
 use Rattle.std.proofs.lemmas.List.{take_all}
 use Rattle.wf_flat.specs.Firing.{CanFire}

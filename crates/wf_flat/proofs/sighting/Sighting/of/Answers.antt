@@ -1,4 +1,4 @@
-use Rattle.std.proofs.Common.{◌≡◌, ◌==◌, ◌∙◌, ℕ, Bool, List, ap}
+use Rattle.std.proofs.Common.{◌==◌, ◌∙◌, ℕ, Bool, List, ap}
 use Rattle.std.specs.List.{list_any}
 use Rattle.wf_parts.specs.declared.data.KnownState.{KnownState}
 use Rattle.wf_flat.proofs.Showing.{sees_shown}

@@ -2,12 +2,10 @@ use Rattle.std.proofs.Common.{◌≡◌, ◌∙◌, ◌==◌, ◌-◌, ℕ, List
 use Rattle.std.specs.Option.{option_map}
 use Rattle.std.proofs.lemmas.Result.{IfOk-weaker}
 use Rattle.wf_model.specs.declared.ids.ActId.{ActId}
-use Rattle.wf_model.specs.declared.value.Val.{Val}
-use Rattle.wf_model.specs.declared.outer.Output.{Output}
 use Rattle.wf_model.specs.declared.outer.Entry.{Entry}
 use Rattle.wf_parts.specs.declared.data.PartData.{PartData}
 use Rattle.wf_semantics.specs.Items.{done_count}
-use Rattle.wf_views.specs.Views.{View, sees, after_outputs, outputs_in, completions_in}
+use Rattle.wf_views.specs.Views.{View, sees, completions_in}
 use Rattle.wf_updates.specs.Tables.{entry}
 use Rattle.wf_updates.proofs.view.View.unclosed_now.Goals as goal
 

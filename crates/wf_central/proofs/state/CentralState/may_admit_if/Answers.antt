@@ -1,7 +1,7 @@
 use Rattle.std.proofs.Common.{ap, ◌∙◌}
 use Rattle.wf_central.specs.Kept.{Kept}
 use Rattle.wf_central.proofs.Same.{admits}
-use Rattle.wf_central.proofs.state.CentralState.may_admit.Goals as goal
+use Rattle.wf_central.proofs.state.CentralState.may_admit_if.Goals as goal
 
 pub returns : goal.returns
 returns c = λ entries same.

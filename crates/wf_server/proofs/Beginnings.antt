@@ -1,0 +1,34 @@
+-- Histories that begin with another one.
+use Rattle.std.proofs.Common.{◌≡◌, ℕ, ◌+◌, ◌≤◌, List, ◌++◌, length, take, drop, refl, sym, ap, ◌∙◌}
+use Rattle.std.proofs.Math.Seq.{take-append_seam, take-length}
+use Rattle.std.proofs.lemmas.List.{take-append-drop}
+use Rattle.wf_model.specs.declared.update.Update.{Update}
+use Rattle.wf_codec.specs.Spelling.{spelling_of}
+use Rattle.wf_parts.specs.declared.data.PartData.{PartData}
+use Rattle.wf_views.specs.Relevant.{relevant}
+use Rattle.wf_histories.specs.Histories.{Admission, TurnDone, History, taken, local_update}
+use Rattle.wf_worlds.specs.Growing.{GoesOn, Fits, admitted, turned}
+use Rattle.wf_worlds.proofs.GoesOn.{update_on}
+use Rattle.wf_server.specs.Images.{Begins}
+use Rattle.wf_server.specs.Sending.{letter_of}
+
+pub begins_same : (h : History) → Begins h h
+begins_same h = record { admissions = take-length h.admissions; turns = take-length h.turns }
+
+pub begins_admitted : (h : History) (a : Admission) → Begins h (admitted h a)
+begins_admitted h a = record { admissions = take-append_seam h.admissions _; turns = take-length h.turns }
+
+pub begins_turned : (h : History) (inputs : List Update) → Begins h (turned h inputs)
+begins_turned h inputs = record { admissions = take-length h.admissions; turns = take-append_seam h.turns _ }
+
+goes_on : (h g : History) → Begins h g → GoesOn h g
+goes_on h g on = record {
+  more = drop (length h.admissions) g.admissions;
+  later = drop (length h.turns) g.turns;
+  admissions = sym (take-append-drop (length h.admissions) g.admissions) ∙ ap (λ (l : List Admission). l ++ drop (length h.admissions) g.admissions) on.admissions;
+  turns = sym (take-append-drop (length h.turns) g.turns) ∙ ap (λ (l : List TurnDone). l ++ drop (length h.turns) g.turns) on.turns;
+}
+
+-- the letter of a step taken, or of the next one, is the same by each history that begins with this one
+pub letter_same : (part : PartData) (h g : History) (v step : ℕ) → Fits h → Begins h g → step ≤ taken h + 1 → letter_of part g v step ≡ letter_of part h v step
+letter_same part h g v step fits on within = ap (λ (update : Update). spelling_of (relevant part.peers update v)) (update_on h g (goes_on h g on) fits part step within)

@@ -1,0 +1,13 @@
+mod Cuts
+mod Beginnings
+mod Reading
+mod Standing
+mod Runs
+mod Inputs
+mod Missing
+mod Arrivals
+mod Keeping
+mod Asked
+mod Admitting
+mod Lending
+mod Turning

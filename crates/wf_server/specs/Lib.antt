@@ -1,0 +1,11 @@
+pub mod Servers
+pub mod Images
+pub mod Inbox
+pub mod Answers
+pub mod Receiving
+pub mod Sending
+pub mod Running
+pub mod Starting
+pub mod Nodes
+pub mod Judging
+pub mod Repeating

@@ -1,0 +1,48 @@
+-- Of other calls. What a start answers, and what it does to its disk.
+use Rattle.std.specs.Prelude.{◌≡◌, ◌⊎◌, ℕ, ◌+◌, ◌≤◌, true, false, nat_lt, not, Bool, List, [], ◌∷◌, length, None, Result, Ok, Err, if◌then◌else◌, is_some}
+use Rattle.wf_disk.specs.Disk.{Told, IsDown, IsSafeFor, HasCause}
+use Rattle.wf_journal.specs.Frames.{bodies_of, is_broken, end_of, can_start}
+use Rattle.wf_journal.specs.Plan.{WentOn, Struck}
+use Rattle.wf_parts.specs.declared.data.PartData.{PartData}
+use Rattle.wf_steps.specs.declared.fault.RecoverFault.TheVariants as recovery
+use Rattle.wf_steps.specs.Records.{history_of}
+use Rattle.wf_server.specs.declared.fault.NodeFault.{NodeFault}
+use Rattle.wf_server.specs.declared.fault.NodeFault.TheVariants as faults
+use Rattle.wf_server.specs.Servers.{Server, held}
+
+-- of two bytes or more the file has an open gate at this place with no whole frame behind it
+abbrev pub BreaksAt : List ℕ → ℕ → Type 0
+BreaksAt file place = (2 ≤ length file) × (is_broken file ≡ true) × (end_of file ≡ place)
+
+-- why no server is started on this image: a bad frame comes first, then what the records are
+abbrev pub StartFails : PartData → List ℕ → NodeFault → Type 0
+StartFails part file (faults.BadFrame place) = BreaksAt file place
+StartFails part file (faults.Foreign kept wanted) = (can_start file ≡ true) × (history_of part file ≡ Err (recovery.Foreign kept wanted))
+StartFails part file (faults.BadRecord place first) = (can_start file ≡ true) × (history_of part file ≡ Err (recovery.BadRecord place first))
+StartFails part file faults.DiskFailed = Unit {0}
+StartFails part file faults.NoMemory = Unit {0}
+
+-- a server as it begins: it goes on from what the image holds, no call of its disk failed, and nothing came
+pub record IsStarted {D : Type 0} (part : PartData) (server : Server D) : Type 0 where
+  pub part_is : server.part ≡ part
+  pub healthy : server.journal.failed ≡ false
+  pub empty : (v step : ℕ) → held server v step ≡ None
+  pub unready : server.ready ≡ false
+
+-- the file holds no frame
+abbrev pub has_none : List (List ℕ) → Bool
+has_none [] = true
+has_none (body ∷ bodies) = false
+
+-- the strokes of a start: on a new disk 7, on a journal without frames 5, else 1
+abbrev pub strokes_on : List ℕ → ℕ
+strokes_on file = if nat_lt (length file) 2 then 7 else (if has_none (bodies_of file) then 5 else 1)
+
+-- A start fails at the first stroke that the disk is to fail, or finds the disk down, and not over a disk that isn't to fail one; with
+-- another answer none was to fail. The disk's count of faults rises exactly if it fails.
+pub record StartRuns (old new : Told) (failed : Type 0) : Type 0 where
+  pub done : (failed → ⊥) → WentOn old new
+  pub struck : failed → Struck old new 7 ⊎ (WentOn old new × IsDown new)
+  pub safe : IsSafeFor old 8 → failed → ⊥
+  pub cause : HasCause old new failed
+  pub tells : is_some new.image ≡ is_some old.image

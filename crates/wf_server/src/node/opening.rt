@@ -1,0 +1,47 @@
+//! How a node is started.
+ghost use Rattle.std.specs.Prelude.{◌≡◌, ◌+◌, ℕ, List, Some, IfOk, IfErr};
+ghost use Rattle.wf_disk.specs.Disk.{LeavesOnly};
+ghost use Rattle.wf_steps.specs.Growing.{IsMade};
+ghost use Rattle.wf_steps.specs.Records.{history_of};
+ghost use Rattle.std.specs.Prelude.{Ok};
+ghost use Rattle.wf_server.specs.Images.{HoldsOneOf};
+ghost use Rattle.wf_server.specs.Starting.{StartFails, IsStarted, StartRuns, strokes_on};
+
+use crate::NodeFault;
+use crate::node::{Node, StartRefused};
+use std::alloc::Global;
+use wf_disk::Disk;
+use wf_parts::Part;
+
+impl<D: Disk> Node<D> {
+    /// Starts a node on a disk: it opens the journal, writes the head record on one without frames, and recovers the history. The refusal
+    /// is what the journal's start answers, and only then what the recovery answers, so that `BadFrame` comes before `Foreign` and
+    /// `BadRecord`; each comes exactly if the image is so. Part and disk are given back at a refusal, and the disk's history is as
+    /// before. A crash meanwhile leaves a history that a crash just before could leave. In linear time in the journal, with one frame
+    /// in memory at a time beside the history.
+    pub fn start(_alloc: Global, part: Part, disk: D) -> Result<Node<D>, StartRefused<D>>
+        ensures history { IfOk result (λ node. (file : List ℕ) → (D.told disk).image ≡ Some file → history_of part file ≡ Ok node.past) }
+        ensures started { IfOk result (IsStarted part) }
+        ensures made { IfOk result (λ node. IsMade part node.past) }
+        ensures refused { IfErr result (λ refused. (file : List ℕ) → (D.told disk).image ≡ Some file → StartFails part file refused.fault) }
+        ensures given_back { IfErr result (λ refused. refused.part ≡ part) }
+        ensures kept { IfErr result (λ refused. (old new : List ℕ) → (D.told disk).image ≡ Some old → (D.told refused.disk).image ≡ Some new →
+            history_of part new ≡ history_of part old) }
+
+        // What a crash leaves, at any moment of the call, and what the call does to its disk.
+        ensures crash { IfOk result (λ node. (file : List ℕ) → (D.told disk).image ≡ Some file →
+            LeavesOnly (D.told disk) (D.told node.journal.disk) (HoldsOneOf part (D.told disk).may_leave)) }
+        ensures crash_refused { IfErr result (λ refused. (file : List ℕ) → (D.told disk).image ≡ Some file →
+            LeavesOnly (D.told disk) (D.told refused.disk) (HoldsOneOf part (D.told disk).may_leave)) }
+        ensures strokes { IfOk result (λ node. (file : List ℕ) → (D.told disk).image ≡ Some file →
+            (D.told node.journal.disk).clock ≡ (D.told disk).clock + strokes_on file) }
+        ensures runs { IfOk result (λ node. StartRuns (D.told disk) (D.told node.journal.disk) ⊥) }
+        ensures runs_refused { IfErr result (λ refused. StartRuns (D.told disk) (D.told refused.disk) (refused.fault ≡ NodeFault.DiskFailed)) }
+    {
+        Err(StartRefused {
+            fault: NodeFault::NoMemory,
+            part,
+            disk,
+        })
+    }
+}

@@ -1,0 +1,10 @@
+pub mod Turning
+pub mod Made
+pub mod ItemsGrow
+pub mod Rules
+pub mod Kept
+pub mod Stepping
+pub mod Fits
+pub mod Worked
+pub mod Follows
+pub mod Reading

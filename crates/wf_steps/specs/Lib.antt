@@ -1,0 +1,9 @@
+pub mod Room
+pub mod Fitting
+pub mod Items
+pub mod Growing
+pub mod Records
+pub mod Replicas
+pub mod Recovering
+pub mod Laws
+pub mod Following

@@ -1,0 +1,16 @@
+pub mod Plays
+pub mod Fuses
+pub mod Requests
+pub mod Letters
+pub mod Units
+pub mod Lines
+pub mod Sets
+pub mod Sounds
+pub mod Counts
+pub mod Inputs
+pub mod Endings
+pub mod Starting
+pub mod Showing
+pub mod Suits
+pub mod Merging
+pub mod MergedIs

@@ -1,0 +1,42 @@
+-- Of other calls. The messages of a world, with their bytes.
+use Rattle.std.specs.Prelude.{◌≡◌, ◌<◌, ◌≤◌, ◌+◌, ℕ, zero, suc, List, [], ◌∷◌, length, slice_get, Option, None}
+use Rattle.std.specs.List.{sum_by, AllByRecursion}
+use Rattle.wf_model.specs.Limits.{max_sent}
+use Rattle.wf_model.specs.declared.chart.Chart.{Chart}
+use Rattle.wf_machine.specs.Server.{taken}
+use Rattle.wf_machine.specs.Machine.{CountingMachine, Message, server}
+use Rattle.wf_world.specs.Sent.{bytes_of}
+use Rattle.wf_world.specs.declared.mail.Sent.{Sent}
+
+-- how many bytes they have
+abbrev pub bytes_in : List Sent → ℕ
+bytes_in messages = sum_by (λ (x : Sent). length x.bytes) messages
+
+-- the message with this number, where messages count from 1
+abbrev pub sent_at : List Sent → ℕ → Option Sent
+sent_at messages zero = None
+sent_at messages (suc n) = slice_get messages n
+
+-- this is how many bytes they have; they aren't too many, and each message has one at least
+pub record IsCounted (messages : List Sent) (sent : ℕ) : Type 0 where
+  pub counted : sent ≡ bytes_in messages
+  pub few : sent ≤ max_sent
+  pub some : length messages ≤ sent
+
+-- a message as the machine has it
+abbrev pub message_of : Sent → Message
+message_of x = record { sender = x.sender.0; receiver = x.receiver.0; step = x.step }
+
+-- a unit sent it, and has made an update of its step
+pub record IsMade (m : CountingMachine) (x : Message) : Type 0 where
+  pub sender : x.sender < length m.servers
+  pub step : x.step ≤ taken (server m x.sender) + 1
+
+-- these are its bytes, by the machine
+pub record IsLetter (chart : Chart) (m : CountingMachine) (x : Sent) : Type 0 where
+  pub made : IsMade m (message_of x)
+  pub bytes : x.bytes ≡ bytes_of chart m (message_of x)
+
+-- all of them are
+abbrev pub AreLetters : Chart → CountingMachine → List Sent → Type 0
+AreLetters chart m messages = AllByRecursion (IsLetter chart m) messages

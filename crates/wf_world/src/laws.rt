@@ -1,0 +1,13 @@
+//! The laws.
+ghost use Rattle.wf_world.specs.Plays.{RunsArePlays, RefusalsPass};
+
+/// A run of a world by its own relations, with its end, is a play: for some outcomes of its doubts the replies and the
+/// ending are the machine's, and the bytes of all messages are few enough after every line.
+pub fn runs_are_plays()
+    ensures { RunsArePlays }
+{}
+
+/// Where a run of a world may be stopped by the bytes of its messages, they are too many after some line of a play.
+pub fn refusals_pass()
+    ensures { RefusalsPass }
+{}

@@ -2,11 +2,11 @@
 ghost use Rattle.std.specs.Prelude.{◌≡◌, ◌*◌, length, nat_le, IsTrue};
 ghost use Rattle.std.specs.List.{list_all};
 ghost use Rattle.wf_model.specs.Limits.{max_transitions, max_actions};
+ghost use Rattle.wf_central.specs.Kept.{IsOf};
 ghost use Rattle.wf_flat.specs.Locking.{HasRoomFor};
 
 use crate::charts::{ORDER, THREE, TWO, WRI};
-use crate::made::{checked_of, outer_of, parts_of};
-use crate::runs::{shares_of_run, step_if_run};
+use crate::runs::{SharedRun, shared_run, step_if_run};
 use crate::told::{append_head, append_raised, append_value, append_word};
 use std::alloc::Global;
 use std::test::Fail;
@@ -14,10 +14,10 @@ use wf_central::CentralState;
 use wf_flat::{lockstep, own_step};
 use wf_model::limits::{MAX_STEPS, MAX_UNITS, MAX_VARS};
 use wf_model::{
-    ActId, Bytes, Chart, Checked, Duplicate, Entry, EventId, List, NoMemory, Outer, Output, Same,
-    StartAt, StateId, StepNotes, TransId, Update, VarId,
+    ActId, Bytes, Chart, Duplicate, Entry, EventId, List, NoMemory, Outer, Output, Same, StartAt,
+    StateId, StepNotes, TransId, Update, VarId,
 };
-use wf_ortho::{append_transitions, orthogonalise};
+use wf_ortho::append_transitions;
 use wf_parts::{Part, PartData};
 use wf_updates::View;
 use wf_words::{act_name, append_number};
@@ -251,42 +251,88 @@ fn append_line(
     text.append(ending)
 }
 
-// The lines of the central run, or none if the entries aren't a run. Each says so if the units differ.
-fn central_lines(
+// The central run beside the views of all units.
+#[derive(Drop)]
+struct Sides {
+    state: CentralState,
+    views: Vec<View>,
+}
+
+// Takes in a step's updates. False if the units don't say of it what the central run says, or their views don't show its state.
+fn units_agree(
     alloc: Global,
-    checked: &Checked,
     parts: &[Part],
-    outer: &[List<Entry>],
-    steps: &[List<Update>],
-) -> Result<Option<Bytes>, NoMemory> {
-    let mut text = List::new(alloc);
-    let mut state = CentralState::first(alloc, checked)?;
-    let mut views = first_views(alloc, parts)?;
-    for (entries, updates) in outer.iter().zip(steps) {
-        let updates = updates.as_slice();
-        let notes = match step_if_run(alloc, checked, &mut state, entries.as_slice())? {
-            Some(notes) => notes,
-            None => return Ok(None),
-        };
-        let are_same = absorb_all(alloc, parts, &mut views, updates)?
-            && all_show(alloc, parts, views.as_slice(), &state)?
+    sides: &mut Sides,
+    notes: &StepNotes,
+    updates: &[Update],
+) -> Result<bool, NoMemory>
+    ensures { sides.new.state ≡ sides.old.state }
+{
+    Ok(
+        absorb_all(alloc, parts, &mut sides.views, updates)?
+            && all_show(alloc, parts, sides.views.as_slice(), &sides.state)?
             && tell_fired(alloc, notes.fired.as_slice(), updates)?
-            && tell_starts(alloc, notes.starts.as_slice(), updates)?;
-        append_line(alloc, &mut text, checked.chart(), &notes, &state, are_same)?;
+            && tell_starts(alloc, notes.starts.as_slice(), updates)?,
+    )
+}
+
+// Takes a step and appends its line. False if the entries may not come in it.
+fn append_step(
+    alloc: Global,
+    text: &mut Bytes,
+    run: &SharedRun,
+    sides: &mut Sides,
+    entries: &[Entry],
+    updates: &[Update],
+) -> Result<bool, NoMemory>
+    requires { IsOf run.now.checked sides.old.state }
+    ensures { IsOf run.now.checked sides.new.state }
+{
+    match step_if_run(alloc, &run.checked, &mut sides.state, entries)? {
+        None => Ok(false),
+        Some(notes) => {
+            let are_same = units_agree(alloc, run.parts.as_slice(), sides, &notes, updates)?;
+            append_line(
+                alloc,
+                text,
+                run.checked.chart(),
+                &notes,
+                &sides.state,
+                are_same,
+            )?;
+            Ok(true)
+        }
+    }
+}
+
+// The lines of the central run, or none if the entries aren't a run. Each says so if the units differ.
+fn central_lines(alloc: Global, run: &SharedRun) -> Result<Option<Bytes>, NoMemory> {
+    let mut text = List::new(alloc);
+    let state = CentralState::first(alloc, &run.checked)?;
+    let views = first_views(alloc, run.parts.as_slice())?;
+    let mut sides = Sides { state, views };
+    for (entries, updates) in run.outer.as_slice().iter().zip(run.steps.as_slice()) {
+        if !append_step(
+            alloc,
+            &mut text,
+            run,
+            &mut sides,
+            entries.as_slice(),
+            updates.as_slice(),
+        )? {
+            return Ok(None);
+        }
     }
     Ok(Some(text))
 }
 
-// The run of all parts, if they are few enough.
-fn locked(
-    alloc: Global,
-    parts: &[Part],
-    outer: &[List<Entry>],
-) -> Result<Option<List<List<Update>>>, NoMemory> {
-    if parts.len() > MAX_UNITS || outer.len() > MAX_STEPS as usize {
-        return Ok(None);
+// Whether the units' shares are what their parts do side by side.
+fn are_locked(alloc: Global, run: &SharedRun) -> Result<bool, NoMemory> {
+    if run.parts.len() > MAX_UNITS || run.outer.len() > MAX_STEPS as usize {
+        return Ok(false);
     }
-    Ok(Some(lockstep(alloc, parts, outer)?))
+    let locked = lockstep(alloc, run.parts.as_slice(), run.outer.as_slice())?;
+    Ok(run.steps.is_same(&locked))
 }
 
 // The update that a unit makes of its first view.
@@ -308,23 +354,15 @@ fn begin_so(alloc: Global, parts: &[Part], updates: &[Update]) -> Result<bool, N
 
 /// The lines of a run, in which the units' shares are what their parts do side by side.
 fn run_told(alloc: Global, chart: &str, script: &str) -> Result<Bytes, Fail> {
-    let checked = checked_of(alloc, chart)?;
-    let flat = orthogonalise(alloc, &checked)?;
-    let parts = parts_of(alloc, &checked, &flat)?;
-    let parts = parts.as_slice();
-    let outer = outer_of(alloc, &checked, script)?;
-    let outer = outer.as_slice();
-    let steps = shares_of_run(alloc, &checked, parts, outer)?.ok_or("no run")?;
-    let locked = locked(alloc, parts, outer)?.ok_or("too many steps")?;
-    if !steps.is_same(&locked) {
+    let run = shared_run(alloc, chart, script)?;
+    if !are_locked(alloc, &run)? {
         Err("the shares differ")?;
     }
-    let first = steps.get(0).ok_or("no step")?;
-    if !begin_so(alloc, parts, first.as_slice())? {
+    let first = run.steps.get(0).ok_or("no step")?;
+    if !begin_so(alloc, run.parts.as_slice(), first.as_slice())? {
         Err("the first steps differ")?;
     }
-    let lines = central_lines(alloc, &checked, parts, outer, steps.as_slice())?;
-    Ok(lines.ok_or("no run")?)
+    Ok(central_lines(alloc, &run)?.ok_or("no run")?)
 }
 
 // The chart, its script, and the lines of its run.

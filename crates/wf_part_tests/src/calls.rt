@@ -4,8 +4,8 @@ ghost use Rattle.wf_parts.specs.Components.{flat_of};
 
 use crate::beside::absorb_if_room;
 use crate::charts::{TWO, WRI};
-use crate::made::{checked_of, outer_of, parts_of};
-use crate::runs::shares_of_run;
+use crate::made::checked_of;
+use crate::runs::shared_run;
 use std::alloc::Global;
 use std::test::Fail;
 use wf_model::{Bytes, Checked, EventId, List, NoMemory, StateId, Val};
@@ -47,15 +47,9 @@ fn components(rt: HostRuntime) -> Result<(), Fail> {
 
 /// The view of the first unit after one step.
 fn view_after_one(alloc: Global, chart: &str, script: &str) -> Result<View, Fail> {
-    let checked = checked_of(alloc, chart)?;
-    let flat = orthogonalise(alloc, &checked)?;
-    let parts = parts_of(alloc, &checked, &flat)?;
-    let outer = outer_of(alloc, &checked, script)?;
-    let steps = shares_of_run(alloc, &checked, parts.as_slice(), outer.as_slice())?.ok_or(
-        "no run",
-    )?;
-    let updates = steps.get(0).ok_or("no step")?;
-    let part = parts.get(0).ok_or("no unit")?;
+    let run = shared_run(alloc, chart, script)?;
+    let updates = run.steps.get(0).ok_or("no step")?;
+    let part = run.parts.get(0).ok_or("no unit")?;
     let mut view = View::first(alloc, part)?;
     if !absorb_if_room(alloc, part, &mut view, updates.as_slice())? {
         Err("no room")?;

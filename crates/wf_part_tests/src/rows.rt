@@ -1,23 +1,20 @@
 //! What each unit contributes to each step, and what each peer is sent of it.
 use crate::charts::{ORDER, REG};
-use crate::made::{checked_of, outer_of, parts_of};
-use crate::runs::shares_of_run;
+use crate::runs::shared_run;
 use crate::told::told;
 use std::alloc::Global;
 use std::test::Fail;
 use wf_model::Bytes;
-use wf_ortho::orthogonalise;
 
 /// The lines of the shares of a run.
 fn shares_told(alloc: Global, chart: &str, script: &str) -> Result<Bytes, Fail> {
-    let checked = checked_of(alloc, chart)?;
-    let flat = orthogonalise(alloc, &checked)?;
-    let parts = parts_of(alloc, &checked, &flat)?;
-    let outer = outer_of(alloc, &checked, script)?;
-    let steps = shares_of_run(alloc, &checked, parts.as_slice(), outer.as_slice())?.ok_or(
-        "no run",
-    )?;
-    Ok(told(alloc, checked.chart(), parts.as_slice(), steps.as_slice())?)
+    let run = shared_run(alloc, chart, script)?;
+    Ok(told(
+        alloc,
+        run.checked.chart(),
+        run.parts.as_slice(),
+        run.steps.as_slice(),
+    )?)
 }
 
 const REG_TOLD: &str = "a 1 outer e

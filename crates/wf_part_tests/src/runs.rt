@@ -1,7 +1,7 @@
-//! Whether lists of entries are a run of a chart, which shares are asked for.
-ghost use Rattle.std.specs.Prelude.{◌≡◌, length, map, take, drop, ◌≤◌, [], IsTrue, IfOk, IfSome};
+//! Runs of a chart, and the shares of their units.
+ghost use Rattle.std.specs.Prelude.{◌≡◌, length, map, [], IsTrue, IfOk, IfSome};
 ghost use Rattle.std.specs.List.{list_all, range_with_len};
-ghost use Rattle.wf_semantics.specs.Admission.{may_come, may_come_after};
+ghost use Rattle.wf_semantics.specs.Admission.{may_come};
 ghost use Rattle.wf_semantics.specs.Run.{next_state};
 ghost use Rattle.wf_central.specs.Kept.{central_of, IsOf};
 ghost use Rattle.wf_runs.specs.Runs.{IsRun, IsRunFrom};
@@ -10,34 +10,28 @@ ghost use Rattle.wf_lockstep.specs.Shares.{entries_at};
 ghost use Rattle.wf_lockstep.specs.Ordered.{rises};
 ghost use Rattle.wf_part_tests.specs.Runs.{IsSharedRun};
 
+use crate::made::{checked_of, outer_of, parts_of};
 use std::alloc::Global;
+use std::test::Fail;
 use wf_central::CentralState;
 use wf_model::limits::MAX_STEPS;
 use wf_model::{Checked, Entry, List, NoMemory, StepNotes, Update};
+use wf_ortho::orthogonalise;
 use wf_parts::Part;
 use wf_projection::shares;
-
-// Whether the entries from this place on may come behind those before it.
-#[tactic(auto, using(crate::proofs::Coming::none_left, crate::proofs::Coming::one_comes))]
-fn may_come_from(checked: &Checked, state: &CentralState, entries: &[Entry], at: usize) -> bool
-    requires of { IsOf checked.now state.now }
-    requires within { at ≤ length entries.now }
-    ensures { result ≡ may_come_after checked.now (central_of checked.now state.now).items (take at entries.now) (drop at entries.now) }
-{
-    if at == entries.len() {
-        return true;
-    }
-    let Entry { unit, outer } = &entries[at];
-    state.may_admit(checked, &entries[..at], *unit, outer).is_ok()
-        && may_come_from(checked, state, entries, at + 1)
-}
 
 // Whether the entries may come in the next step.
 fn may_come(checked: &Checked, state: &CentralState, entries: &[Entry]) -> bool
     requires { IsOf checked.now state.now }
     ensures { result ≡ may_come checked.now (central_of checked.now state.now).items entries.now }
 {
-    may_come_from(checked, state, entries, 0)
+    for (at, entry) in entries.iter().enumerate() {
+        let admitted = state.may_admit(checked, &entries[..at], entry.unit, &entry.outer);
+        if admitted.is_err() {
+            return false;
+        }
+    }
+    true
 }
 
 /// Takes a step, or answers none if these entries may not come in it.
@@ -134,4 +128,30 @@ pub fn shares_of_run(
         return Ok(None);
     }
     Ok(Some(shares(alloc, checked, parts, outer)?))
+}
+
+/// A run of a chart, and what each unit contributes to each of its steps.
+#[derive(Drop)]
+pub struct SharedRun {
+    pub checked: Checked,
+    pub parts: Vec<Part>,
+    pub outer: List<List<Entry>>,
+    pub steps: List<List<Update>>,
+}
+
+/// The run that a chart and a script of the central run mean.
+pub fn shared_run(alloc: Global, chart: &str, script: &str) -> Result<SharedRun, Fail> {
+    let checked = checked_of(alloc, chart)?;
+    let flat = orthogonalise(alloc, &checked)?;
+    let parts = parts_of(alloc, &checked, &flat)?;
+    let outer = outer_of(alloc, &checked, script)?;
+    let steps = shares_of_run(alloc, &checked, parts.as_slice(), outer.as_slice())?.ok_or(
+        "no run",
+    )?;
+    Ok(SharedRun {
+        checked,
+        parts,
+        outer,
+        steps,
+    })
 }

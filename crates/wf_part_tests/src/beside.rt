@@ -352,17 +352,21 @@ fn begin_so(alloc: Global, parts: &[Part], updates: &[Update]) -> Result<bool, N
     Ok(true)
 }
 
-/// The lines of a run, in which the units' shares are what their parts do side by side.
-fn run_told(alloc: Global, chart: &str, script: &str) -> Result<Bytes, Fail> {
-    let run = shared_run(alloc, chart, script)?;
-    if !are_locked(alloc, &run)? {
+// The lines of a run, in which the units' shares are what their parts do side by side.
+fn lines_if_locked(alloc: Global, run: &SharedRun) -> Result<Bytes, Fail> {
+    if !are_locked(alloc, run)? {
         Err("the shares differ")?;
     }
     let first = run.steps.get(0).ok_or("no step")?;
     if !begin_so(alloc, run.parts.as_slice(), first.as_slice())? {
         Err("the first steps differ")?;
     }
-    Ok(central_lines(alloc, &run)?.ok_or("no run")?)
+    Ok(central_lines(alloc, run)?.ok_or("no run")?)
+}
+
+fn run_told(alloc: Global, chart: &str, script: &str) -> Result<Bytes, Fail> {
+    let run = shared_run(alloc, chart, script)?;
+    lines_if_locked(alloc, &run)
 }
 
 // The chart, its script, and the lines of its run.

@@ -5,7 +5,7 @@ ghost use Rattle.wf_parts.specs.Components.{flat_of};
 use crate::beside::absorb_if_room;
 use crate::charts::{TWO, WRI};
 use crate::made::checked_of;
-use crate::runs::shared_run;
+use crate::runs::{SharedRun, shared_run};
 use std::alloc::Global;
 use std::test::Fail;
 use wf_model::{Bytes, Checked, EventId, List, NoMemory, StateId, Val};
@@ -45,9 +45,8 @@ fn components(rt: HostRuntime) -> Result<(), Fail> {
     Ok(())
 }
 
-/// The view of the first unit after one step.
-fn view_after_one(alloc: Global, chart: &str, script: &str) -> Result<View, Fail> {
-    let run = shared_run(alloc, chart, script)?;
+// The view of the first unit after one step of the run.
+fn view_in(alloc: Global, run: &SharedRun) -> Result<View, Fail> {
     let updates = run.steps.get(0).ok_or("no step")?;
     let part = run.parts.get(0).ok_or("no unit")?;
     let mut view = View::first(alloc, part)?;
@@ -55,6 +54,12 @@ fn view_after_one(alloc: Global, chart: &str, script: &str) -> Result<View, Fail
         Err("no room")?;
     }
     Ok(view)
+}
+
+/// The view of the first unit after one step.
+fn view_after_one(alloc: Global, chart: &str, script: &str) -> Result<View, Fail> {
+    let run = shared_run(alloc, chart, script)?;
+    view_in(alloc, &run)
 }
 
 /// Whether two views have the same states, values, events and counts.

@@ -139,15 +139,32 @@ pub struct SharedRun {
     pub steps: List<List<Update>>,
 }
 
+// What the units contribute to each step of a run of the chart.
+fn shares_of(
+    alloc: Global,
+    checked: &Checked,
+    parts: &[Part],
+    outer: &[List<Entry>],
+) -> Result<List<List<Update>>, Fail>
+    requires { parts.now ≡ map (part_of checked.now) (range_with_len 0 (length checked.now.units)) }
+{
+    Ok(shares_of_run(alloc, checked, parts, outer)?.ok_or("no run")?)
+}
+
+// The parts of all units of the chart.
+fn parts_in(alloc: Global, checked: &Checked) -> Result<Vec<Part>, NoMemory>
+    ensures { IfOk result (λ parts. parts.items ≡ map (part_of checked.now) (range_with_len 0 (length checked.now.units))) }
+{
+    let flat = orthogonalise(alloc, checked)?;
+    parts_of(alloc, checked, &flat)
+}
+
 /// The run that a chart and a script of the central run mean.
 pub fn shared_run(alloc: Global, chart: &str, script: &str) -> Result<SharedRun, Fail> {
     let checked = checked_of(alloc, chart)?;
-    let flat = orthogonalise(alloc, &checked)?;
-    let parts = parts_of(alloc, &checked, &flat)?;
+    let parts = parts_in(alloc, &checked)?;
     let outer = outer_of(alloc, &checked, script)?;
-    let steps = shares_of_run(alloc, &checked, parts.as_slice(), outer.as_slice())?.ok_or(
-        "no run",
-    )?;
+    let steps = shares_of(alloc, &checked, parts.as_slice(), outer.as_slice())?;
     Ok(SharedRun {
         checked,
         parts,

@@ -9,8 +9,8 @@ pub loop-at-preserved : goal.loop-at-preserved
 loop-at-preserved c =
     let chart = c.args.checked.now in
     let items = (central_of chart c.args.state.now).items in
-    let x : Entry = c.entry-item.result in
-    next_comes chart items c.args.entries.now c.loop-at.at x c.may_admit-admitted.result true (omega arith) c.entry-item.is
+    let x : Entry = c.index-entries-at.result in
+    next_comes chart items c.args.entries.now c.loop-at.at x c.may_admit-admitted.result true (omega arith) c.index-entries-at.is
     (c.may_admit-admitted.ensures ∙ ap (λ (ps : List Entry). may_be_admitted chart items ps x.unit.0 x.outer) (search rules)) c.if-is_err.ensures.negation
     ∙ c.loop-at.invariant
 
@@ -18,8 +18,8 @@ pub returns-then-is_err : goal.returns-then-is_err
 returns-then-is_err c =
     let chart = c.args.checked.now in
     let items = (central_of chart c.args.state.now).items in
-    let x : Entry = c.entry-item.result in
-    next_comes chart items c.args.entries.now c.loop-at.at x c.may_admit-admitted.result false (omega arith) c.entry-item.is
+    let x : Entry = c.index-entries-at.result in
+    next_comes chart items c.args.entries.now c.loop-at.at x c.may_admit-admitted.result false (omega arith) c.index-entries-at.is
     (c.may_admit-admitted.ensures ∙ ap (λ (ps : List Entry). may_be_admitted chart items ps x.unit.0 x.outer) (search rules)) c.if-is_err.ensures.negation
     ∙ c.loop-at.invariant
 

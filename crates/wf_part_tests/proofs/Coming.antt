@@ -1,5 +1,5 @@
 -- Entries one by one.
-use Rattle.std.proofs.Common.{◌≡◌, ◌∙◌, ◌<◌, ◌+◌, ◌++◌, ◌&&◌, ℕ, Bool, true, false, List, [], ◌∷◌, Result, length, get_or, take, drop, sym, ap, is_ok, arith}
+use Rattle.std.proofs.Common.{◌≡◌, ◌∙◌, ◌<◌, ◌+◌, ◌++◌, ◌&&◌, ℕ, Bool, true, List, [], ◌∷◌, Result, length, get_or, take, drop, sym, ap, is_ok, arith}
 use Rattle.std.proofs.lemmas.List.{take_more, drop_all, drop_more}
 use Rattle.wf_model.specs.declared.chart.Chart.{Chart}
 use Rattle.wf_model.specs.declared.outer.Entry.{Entry}

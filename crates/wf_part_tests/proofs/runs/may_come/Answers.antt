@@ -1,4 +1,4 @@
-use Rattle.std.proofs.Common.{◌≡◌, ◌∙◌, List, true, false, ap, arith, rules}
+use Rattle.std.proofs.Common.{◌∙◌, List, true, false, ap, arith, rules}
 use Rattle.wf_model.specs.declared.outer.Entry.{Entry}
 use Rattle.wf_semantics.specs.Admission.{may_be_admitted}
 use Rattle.wf_central.specs.Kept.{central_of}

@@ -89,6 +89,7 @@ impl<D: Disk> Journal<D> {
 
         // The disk's strokes.
         ensures strokes { IfOk result (λ journal. TakesStrokes (D.told disk) (D.told journal.disk)) }
+        ensures most { IfOk result (λ journal. (D.told journal.disk).clock ≤ (D.told disk).clock + 3) }
         ensures one_stroke { IfErr result (λ refused. refused.fault ≢ StartFault.DiskFailed →
             (D.told refused.disk).clock ≡ (D.told disk).clock + 1) }
         ensures plan { IfOk result (λ journal. WentOn (D.told disk) (D.told journal.disk)) }

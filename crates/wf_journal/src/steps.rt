@@ -81,6 +81,7 @@ pub fn find_end<D: Disk>(disk: &mut D) -> Result<u64, StartFault>
     ensures any_moment { LeavesStart (D.told disk.old) (D.told disk.new) }
     ensures made { IfOk result (λ _. IsMade (D.told disk.old) (D.told disk.new)) }
     ensures strokes { IfOk result (λ _. TakesStrokes (D.told disk.old) (D.told disk.new)) }
+    ensures most { IfOk result (λ _. (D.told disk.new).clock ≤ (D.told disk.old).clock + 3) }
     ensures one_stroke { IfErr result (λ e. e ≢ StartFault.DiskFailed → (D.told disk.new).clock ≡ (D.told disk.old).clock + 1) }
     ensures plan { StartMeetsPlan (D.told disk.old) (D.told disk.new) (IsErrOf result StartFault.DiskFailed) }
     ensures enough { (D.told disk.old).has_room 1 1 → IsErrOf result StartFault.NoMemory → ⊥ }

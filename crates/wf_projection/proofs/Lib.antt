@@ -1,1 +1,3 @@
 mod Projected
+mod Places
+mod Central

@@ -1,12 +1,16 @@
-//! What the units contribute to the central run of a chart, worked out by their parts.
+//! What the units of a chart do together, worked out from their parts and from their histories.
 //!
-//! - Promises: `shares` answers, for each step of a central run, the share of each unit, or runs out
-//!   of memory.
+//! - Promises: `shares` answers, for each step of a central run, the share of each unit. `merged`
+//!   answers the merged list of the units' histories; if they agree, it is a run of the chart, over
+//!   which each unit shows the central state. Both refuse only if memory runs out.
 //! - Doesn't say: that servers did so; `wf_histories` says when histories agree.
-//! - A caller: none; no command shows shares.
-//! - A change of what a share is begins in `Shares` of `wf_lockstep`.
+//! - A caller: none; no command shows shares or a merged list of histories.
+//! - A change of what a share is begins in `Shares` of `wf_lockstep`, one of the merged list in
+//!   `Agreement` of `wf_histories`.
 #![tactic(auto)]
 
 mod contributions;
+mod merging;
 
 pub use contributions::shares;
+pub use merging::merged;

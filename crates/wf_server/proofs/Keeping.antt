@@ -76,7 +76,7 @@ module _ {D : Type 0} (told : D → Told) where
       (subst (λ t. IsInbox part (t + 1) came) (sym took) came_is) (subst (λ t. IsInbox part (t + 2) early) (sym took) early_is) (none_ready (IsReady j.room r came))
 
   -- after a Turn
-  empty_inbox : (part : PartData) (step : ℕ) (slots : List (Option Update)) → length slots ≡ part.units → ((v : ℕ) → held_in slots v ≡ None) → IsInbox part step slots
+  pub empty_inbox : (part : PartData) (step : ℕ) (slots : List (Option Update)) → length slots ≡ part.units → ((v : ℕ) → held_in slots v ≡ None) → IsInbox part step slots
   empty_inbox part step slots size none = record { size = size; each = λ v update there. absurd (none_some (sym (none v) ∙ there)) }
 
   pub node_turned : (j j0 : Kept D) (r r0 : Replicated) (came early came0 early0 : List (Option Update)) (ready : Option Ready) (ready0 : Option Ready) → IsNode told j0 r0 came0 early0 ready0 → r.part ≡ r0.part → r.past ≡ with_turn r0.past came0 → came ≡ early0 → length early ≡ length came0 → ((v : ℕ) → held_in early v ≡ None) → ready ≡ None →

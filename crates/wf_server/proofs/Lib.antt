@@ -11,3 +11,9 @@ mod Asked
 mod Admitting
 mod Lending
 mod Turning
+mod Stretches
+mod Empty
+mod HeadWrites
+mod Starts
+mod Joins
+mod Opened

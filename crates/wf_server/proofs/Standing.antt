@@ -49,14 +49,14 @@ pub record Appended {D : Type 0} (told : D → Told) (j j' : Kept D) (body : Lis
 
 -- WHAT IMAGES HOLD
 
-holds_on : (part : PartData) (past h : History) (c : List ℕ) → Holds part h c → Begins past h → HoldsOn part past c
+pub holds_on : (part : PartData) (past h : History) (c : List ℕ) → Holds part h c → Begins past h → HoldsOn part past c
 holds_on part past h c is on = let P : Result History RecoverFault → Type 0 = λ r. ForOk r (Begins past) in subst P (sym is) (λ x same. subst (Begins past) (one_ok same) on)
 
-told_before : (a b : Option (List ℕ)) (x : List ℕ) → is_some a ≡ is_some b → a ≡ Some x → (y : List ℕ) × (b ≡ Some y)
+pub told_before : (a b : Option (List ℕ)) (x : List ℕ) → is_some a ≡ is_some b → a ≡ Some x → (y : List ℕ) × (b ≡ Some y)
 told_before a None x same is = absurd (true≢false (sym (ap is_some is) ∙ same))
 told_before a (Some y) x same is = (y, refl)
 
-some_is : {x y : List ℕ} → ◌≡◌ {A = Option (List ℕ)} (Some x) (Some y) → x ≡ y
+pub some_is : {x y : List ℕ} → ◌≡◌ {A = Option (List ℕ)} (Some x) (Some y) → x ≡ y
 some_is e = cc
 
 module _ (d0 d1 : Told) (part : PartData) (past : History) (stands : Stands d0 false part past) (tells : is_some d1.image ≡ is_some d0.image) where

@@ -9,3 +9,4 @@ pub mod Starting
 pub mod Nodes
 pub mod Judging
 pub mod Repeating
+pub mod Heads

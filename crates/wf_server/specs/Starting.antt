@@ -4,6 +4,9 @@ use Rattle.wf_disk.specs.Disk.{Told, IsDown, IsSafeFor, HasCause}
 use Rattle.wf_journal.specs.Frames.{bodies_of, is_broken, end_of, can_start}
 use Rattle.wf_journal.specs.Plan.{WentOn, Struck}
 use Rattle.wf_parts.specs.declared.data.PartData.{PartData}
+use Rattle.wf_journal.specs.declared.fault.StartFault.{StartFault}
+use Rattle.wf_journal.specs.declared.fault.StartFault.TheVariants as starts
+use Rattle.wf_steps.specs.declared.fault.RecoverFault.{RecoverFault}
 use Rattle.wf_steps.specs.declared.fault.RecoverFault.TheVariants as recovery
 use Rattle.wf_steps.specs.Records.{history_of}
 use Rattle.wf_server.specs.declared.fault.NodeFault.{NodeFault}
@@ -22,6 +25,19 @@ StartFails part file (faults.BadRecord place first) = (can_start file ≡ true) 
 StartFails part file faults.DiskFailed = Unit {0}
 StartFails part file faults.NoMemory = Unit {0}
 
+-- A refusal of the journal's start, and one of the recovery, as a server tells it.
+
+abbrev pub unstarted_by : StartFault → NodeFault
+unstarted_by (starts.BadFrame place) = faults.BadFrame place
+unstarted_by starts.DiskFailed = faults.DiskFailed
+unstarted_by starts.NoMemory = faults.NoMemory
+
+abbrev pub unrecovered_by : RecoverFault → NodeFault
+unrecovered_by (recovery.Foreign kept wanted) = faults.Foreign kept wanted
+unrecovered_by (recovery.BadRecord place first) = faults.BadRecord place first
+unrecovered_by recovery.DiskFailed = faults.DiskFailed
+unrecovered_by recovery.NoMemory = faults.NoMemory
+
 -- a server as it begins: it goes on from what the image holds, no call of its disk failed, and nothing came
 pub record IsStarted {D : Type 0} (part : PartData) (server : Server D) : Type 0 where
   pub part_is : server.part ≡ part
@@ -38,11 +54,15 @@ has_none (body ∷ bodies) = false
 abbrev pub strokes_on : List ℕ → ℕ
 strokes_on file = if nat_lt (length file) 2 then 7 else (if has_none (bodies_of file) then 5 else 1)
 
--- A start fails at the first stroke that the disk is to fail, or finds the disk down, and not over a disk that isn't to fail one; with
--- another answer none was to fail. The disk's count of faults rises exactly if it fails.
-pub record StartRuns (old new : Told) (failed : Type 0) : Type 0 where
+-- A call of at most so many strokes fails at the first of them that the disk is to fail, or finds the disk down, and not over a disk that
+-- isn't to fail one; with another answer none was to fail. The disk's count of faults rises exactly if it fails.
+pub record RunsFor (old new : Told) (most : ℕ) (failed : Type 0) : Type 0 where
   pub done : (failed → ⊥) → WentOn old new
-  pub struck : failed → Struck old new 7 ⊎ (WentOn old new × IsDown new)
-  pub safe : IsSafeFor old 8 → failed → ⊥
+  pub struck : failed → Struck old new most ⊎ (WentOn old new × IsDown new)
+  pub safe : IsSafeFor old (most + 1) → failed → ⊥
   pub cause : HasCause old new failed
   pub tells : is_some new.image ≡ is_some old.image
+
+-- a start makes at most 7 strokes
+abbrev pub StartRuns : Told → Told → Type 0 → Type 0
+StartRuns old new failed = RunsFor old new 7 failed

@@ -190,3 +190,34 @@ impl From<AppendFault> for TurnFault {
         }
     }
 }
+
+impl From<StartFault> for NodeFault {
+    ghost use Rattle.std.specs.Prelude.{◌≡◌};
+    ghost use Rattle.wf_server.specs.Starting.{unstarted_by};
+
+    ghost from_gives = { λ refusal fault. fault ≡ unstarted_by refusal };
+
+    fn from(refusal: StartFault) -> NodeFault {
+        match refusal {
+            StartFault::BadFrame { at } => NodeFault::BadFrame { at },
+            StartFault::DiskFailed => NodeFault::DiskFailed,
+            StartFault::NoMemory => NodeFault::NoMemory,
+        }
+    }
+}
+
+impl From<RecoverFault> for NodeFault {
+    ghost use Rattle.std.specs.Prelude.{◌≡◌};
+    ghost use Rattle.wf_server.specs.Starting.{unrecovered_by};
+
+    ghost from_gives = { λ refusal fault. fault ≡ unrecovered_by refusal };
+
+    fn from(refusal: RecoverFault) -> NodeFault {
+        match refusal {
+            RecoverFault::Foreign { kept, wanted } => NodeFault::Foreign { kept, wanted },
+            RecoverFault::BadRecord { at, first } => NodeFault::BadRecord { at, first },
+            RecoverFault::DiskFailed => NodeFault::DiskFailed,
+            RecoverFault::NoMemory => NodeFault::NoMemory,
+        }
+    }
+}

@@ -8,6 +8,7 @@ ghost use Rattle.wf_server.specs.Images.{Holds, HoldsOn};
 ghost use Rattle.wf_server.specs.Sending.{shown_state, shown_var};
 
 mod admission;
+mod head;
 mod inbox;
 mod letters;
 mod opening;

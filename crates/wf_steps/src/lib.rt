@@ -1,4 +1,13 @@
-//! A unit's history, what the unit makes of it without a disk, and how both are read from a journal.
+//! A unit without its disk: its history, what its part makes of it, and how both are read from a
+//! journal.
+//!
+//! - Promises: a `Replica` has a history that records made, each of which may follow those before
+//!   it, and shows the view, the items and the two last updates that the definitions make of its
+//!   part and this history. `recover` reads it from a journal, or answers the first body that is
+//!   wrong. `admit` and `turn` take no memory.
+//! - Doesn't say: that memory is found; that histories of different units agree.
+//! - A caller: `wf_server` keeps a replica beside its journal.
+//! - A change of what a record makes of a history begins in `specs/Records.antt`.
 #![tactic(auto)]
 
 mod fault;

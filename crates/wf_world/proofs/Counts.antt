@@ -1,23 +1,19 @@
 -- What the machine of sound units shows, lets in and sends is what each unit's part and history make of it.
-use Rattle.std.proofs.Common.{◌≡◌, ◌≢◌, ℕ, zero, suc, ◌+◌, ◌<◌, ◌≤◌, ◌==◌, List, [], ◌∷◌, map, length, slice_get, unwrap_or, Option, Some, None, option_map, Result, refl, sym, ap, ap₂, ◌∙◌, arith}
+use Rattle.std.proofs.Common.{◌≡◌, ℕ, zero, suc, ◌+◌, ◌<◌, ◌≤◌, List, [], ◌∷◌, map, length, slice_get, unwrap_or, Option, Some, option_map, refl, sym, ap, ◌∙◌, arith}
 use Rattle.std.proofs.lemmas.List.{length-map}
 use Rattle.std.proofs.lemmas.Option.{slice_get-map}
-use Rattle.wf_model.specs.declared.ids.ActId.{ActId}
 use Rattle.wf_model.specs.declared.outer.Outer.{Outer}
-use Rattle.wf_model.specs.declared.outer.OuterFault.{OuterFault}
 use Rattle.wf_model.specs.declared.chart.Chart.{Chart}
-use Rattle.wf_model.specs.declared.update.Update.{Update}
 use Rattle.wf_model.specs.Accepted.{IsAccepted}
 use Rattle.wf_parts.specs.Parts.{part_of}
 use Rattle.wf_parts.specs.Peers.{peers_of}
 use Rattle.wf_codec.specs.Spelling.{spelling_of}
 use Rattle.wf_views.specs.Relevant.{relevant}
-use Rattle.wf_machine.specs.declared.admission.Admission as of
 use Rattle.wf_machine.specs.Server.{Server, new_server, taken as steps}
-use Rattle.wf_machine.specs.Machine.{CountingMachine, Message, server}
+use Rattle.wf_machine.specs.Machine.{CountingMachine, server}
 use Rattle.wf_machine.specs.Sights.{sight_of, items_of}
 use Rattle.wf_machine.specs.Lines.{lets}
-use Rattle.wf_histories.specs.Histories.{Admission, History, seals, taken, local_update}
+use Rattle.wf_histories.specs.Histories.{Admission, History, taken, local_update}
 use Rattle.wf_histories.specs.Laws.{AreLean}
 use Rattle.wf_worlds.specs.Admitting.{lets_in}
 use Rattle.wf_bridge.specs.Bridging.{in_history, CountsOf, node_sight, node_items}
@@ -25,7 +21,7 @@ use Rattle.wf_bridge.proofs.Bridging.{lets_same, sight_same, items_same}
 use Rattle.wf_bridge.proofs.Placing.{letter_cut}
 use Rattle.wf_world.specs.declared.mail.Sent.{Sent}
 use Rattle.wf_world.specs.Sent.{bytes_of}
-use Rattle.wf_world.specs.Mail.{message_of, IsMade, IsLetter}
+use Rattle.wf_world.specs.Mail.{IsLetter}
 use Rattle.wf_world.specs.Units.{UnitState, counted, server_of, machine_of}
 use Rattle.wf_world.specs.Sounds.{new_unit, unit_at, hist_of, IsSound}
 use Rattle.wf_world.proofs.Sounds.{are_lean}
@@ -48,7 +44,6 @@ back [] = refl
 back (x ∷ xs) = ap (λ (ys : List Admission). x ∷ ys) (back xs)
 
 module _ (chart : Chart) (ok : IsAccepted chart) (units : List UnitState) (messages : List Sent) (count : length units ≡ length chart.units) where
-
   abbrev m : CountingMachine
   m = machine_of units messages
 
@@ -67,7 +62,6 @@ module _ (chart : Chart) (ok : IsAccepted chart) (units : List UnitState) (messa
   }
 
   module _ (s : IsSound chart units) (u : ℕ) (lt : u < length chart.units) where
-
     lean_here : AreLean chart h
     lean_here = are_lean chart ok units count s
 

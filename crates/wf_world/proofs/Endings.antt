@@ -1,11 +1,10 @@
 -- What an end does to the units of a world is what it does to the machine that counts for them.
-use Rattle.std.proofs.Common.{◌≡◌, ◌≢◌, ℕ, zero, suc, ◌+◌, ◌<◌, Bool, true, false, List, [], ◌∷◌, ◌++◌, map, length, slice_get, Option, Some, None, refl, sym, ap, ap₂, ◌∙◌, arith, append_assoc}
+use Rattle.std.proofs.Common.{◌≡◌, ◌≢◌, ℕ, suc, ◌+◌, Bool, true, List, [], ◌∷◌, ◌++◌, map, length, slice_get, Option, Some, None, refl, sym, ap, ap₂, ◌∙◌, arith, append_assoc}
 use Rattle.std.proofs.lemmas.List.{length-map, append-nil}
 use Rattle.wf_model.specs.declared.ids.UnitId.{UnitId}
 use Rattle.wf_machine.specs.Bars.{Bar}
-use Rattle.wf_machine.specs.Server.{Health, Works, Failed, IsDown, Server, taken as steps, recovered}
-use Rattle.wf_machine.specs.Machine.{CountingMachine}
-use Rattle.wf_machine.specs.Runs.{first_outcome, other_outcomes, is_lost, at_end_by, at_end, all_at_end, closed, recovery_of, recoveries}
+use Rattle.wf_machine.specs.Server.{Health, Works, Failed, IsDown, Server, recovered}
+use Rattle.wf_machine.specs.Runs.{is_lost, at_end_by, at_end, all_at_end, closed, recovery_of, recoveries}
 use Rattle.wf_histories.specs.Histories.{taken}
 use Rattle.wf_world.specs.declared.mail.Sent.{Sent}
 use Rattle.wf_world.specs.Units.{UnitState, counted, server_of, machine_of}

@@ -1,15 +1,15 @@
 -- What strokes do to a disk that is to fail just where a fuse says.
-use Rattle.std.proofs.Common.{◌≡◌, ◌≢◌, ◌⊎◌, inl, inr, ℕ, ◌+◌, ◌-◌, ◌<◌, ◌≤◌, ◌==◌, ◌||◌, Bool, true, false, List, Option, Some, None, option_map, refl, sym, ◌∙◌, ap, ap₂, subst, arith, rules, nat_lt, nat_le}
+use Rattle.std.proofs.Common.{◌≡◌, ◌≢◌, ◌⊎◌, inl, inr, ℕ, ◌+◌, ◌-◌, ◌<◌, ◌≤◌, ◌==◌, ◌||◌, Bool, true, false, List, Option, Some, None, option_map, refl, sym, ◌∙◌, ap, ap₂, subst, arith, rules, nat_lt, cond}
 use Rattle.std.specs.Prelude.{is_some}
 use Rattle.std.proofs.lemmas.Bool.{cond-true, cond-false, eqb-true, eq-eqb}
 use Rattle.wf_disk.specs.declared.arm.Arm.{Arm}
 use Rattle.wf_disk.specs.declared.arm.Arm.TheVariants.{Fail, Crash}
 use Rattle.wf_model.specs.Faults.{last_count}
-use Rattle.wf_disk.specs.Disk.{Told, KeepsPlan, GoesOnOrStops, IsDown}
+use Rattle.wf_disk.specs.Disk.{Told, GoesOnOrStops, IsDown}
 use Rattle.wf_disk.specs.declared.arm.Armed.{Armed}
 use Rattle.wf_disk.specs.declared.arm.Outcome.{Outcome}
 use Rattle.wf_disk.specs.declared.arm.Fate.TheVariants as fate
-use Rattle.wf_disk.specs.Arms.{is_counted, fate_at, fate_by, is_stop}
+use Rattle.wf_disk.specs.Arms.{fate_at, fate_by, is_stop}
 use Rattle.wf_disk.specs.Memory.{Held, told_of, armed, is_stopped_for, is_stopped_after, fate_for}
 use Rattle.wf_journal.specs.Plan.{WentOn, Struck}
 use Rattle.wf_machine.specs.Strokes.{Fuse, Met, Done, SetOff, strokes}
@@ -149,3 +149,44 @@ module _ (m : Held) (k : ℕ) (what : Arm) (runs : m.stop ≡ None) (later : 1 �
       counted_at : (n : ℕ) → n ≤ last_count → fate_for then_armed n ≢ fate.Done → (b : Bool) → (m.clock + k == n) ≡ b → n ≡ m.clock + k
       counted_at n within fails true e = sym (eqb-true (m.clock + k) n e)
       counted_at n within fails false e = absurd (fails (fate_open then_armed n runs within ∙ cond-false (m.clock + k == n) (fate_by what) fate.Done e))
+
+-- A disk in memory with the same clock, stop and arm has the same fuse.
+module _ (m new : Held) (clock : new.clock ≡ m.clock) (stop : new.stop ≡ m.stop) (arm : new.arm ≡ m.arm) where
+  fate_same : (n : ℕ) → fate_for new n ≡ fate_for m n
+  fate_same n = ap₂ (λ (s : Option Outcome) (a : Option Armed). cond (is_some s || nat_lt last_count n) fate.Fails (fate_at a n)) stop arm
+
+  stop_same : (n : ℕ) → is_stopped_after new n ≡ is_stopped_after m n
+  stop_same n = ap₂ (λ (s : Option Outcome) (a : Option Armed). (is_some s || nat_lt last_count n) || is_stop (fate_at a n)) stop arm
+
+  fails_too : (n : ℕ) → fate_for new n ≢ fate.Done → fate_for m n ≢ fate.Done
+  fails_too n fails done = fails (fate_same n ∙ done)
+
+  fails_new : (n : ℕ) → fate_for m n ≢ fate.Done → fate_for new n ≢ fate.Done
+  fails_new n fails done = fails (sym (fate_same n) ∙ done)
+
+  pub fused_same : (fuse : Option Fuse) → IsFused (told_of m) fuse → IsFused (told_of new) fuse
+  fused_same None lit = record { none = λ n after within fails. lit.none n (omega (arith, after, clock)) within (fails_too n fails) }
+  fused_same (Some f) lit =
+      let there : new.clock + f.left ≡ m.clock + f.left = omega (arith, clock) in
+      record {
+        later = lit.later;
+        due = fails_new (new.clock + f.left) (subst (λ (n : ℕ). fate_for m n ≢ fate.Done) (sym there) lit.due);
+        only = λ n after within fails. lit.only n (omega (arith, after, clock)) within (fails_too n fails) ∙ sym there;
+        stops = λ crash. stop_same (new.clock + f.left) ∙ ap (is_stopped_after m) there ∙ lit.stops crash;
+        goes_on = λ fail stops. lit.goes_on fail (sym (ap (is_stopped_after m) there) ∙ sym (stop_same (new.clock + f.left)) ∙ stops);
+      }
+
+-- one that has a fuse hasn't stopped, as long as it can count
+pub runs_on : (m : Held) (fuse : Option Fuse) → IsFused (told_of m) fuse → m.clock + 2 ≤ last_count → m.stop ≡ None
+runs_on m fuse lit early = go m.stop refl fuse lit
+  where
+    stopped : (o : Outcome) → m.stop ≡ Some o → (n : ℕ) → fate_for m n ≢ fate.Done
+    stopped o is n done = let same : fate.Fails ≡ fate.Done = sym (ap (λ (s : Option Outcome). cond (is_some s || nat_lt last_count n) fate.Fails (fate_at m.arm n)) is) ∙ done in cc
+
+    go : (s : Option Outcome) → m.stop ≡ s → (fuse : Option Fuse) → IsFused (told_of m) fuse → m.stop ≡ None
+    go None is fuse lit = is
+    go (Some o) is None lit = absurd (lit.none (m.clock + 1) (omega arith) (omega (arith, early)) (stopped o is (m.clock + 1)))
+    go (Some o) is (Some f) lit =
+        let one : m.clock + 1 ≡ m.clock + f.left = lit.only (m.clock + 1) (omega arith) (omega (arith, early)) (stopped o is (m.clock + 1)) in
+        let two : m.clock + 2 ≡ m.clock + f.left = lit.only (m.clock + 2) (omega arith) (omega (arith, early)) (stopped o is (m.clock + 2)) in
+        absurd (omega (arith, one, two))

@@ -1,5 +1,5 @@
 -- What a unit holds of its peers: what its next turn takes in, and what may come.
-use Rattle.std.proofs.Common.{◌≡◌, ◌≢◌, ℕ, zero, suc, ◌+◌, ◌<◌, ◌≤◌, ◌==◌, not, cond, Bool, true, false, List, [], ◌∷◌, map, filter, length, Option, Some, None, refl, sym, ap, ap₂, ◌∙◌, subst, arith, eqb-true, eq-eqb}
+use Rattle.std.proofs.Common.{◌≡◌, ◌≢◌, ℕ, suc, ◌+◌, ◌<◌, ◌≤◌, ◌==◌, not, cond, Bool, true, false, List, [], ◌∷◌, map, filter, length, Option, Some, None, refl, sym, ap, ap₂, ◌∙◌, subst, arith, eqb-true, eq-eqb}
 use Rattle.std.specs.Prelude.{slice_index_or}
 use Rattle.std.specs.List.{filter_map, cons_option, range_with_len}
 use Rattle.std.proofs.lemmas.Bool.{cond-true, cond-false}
@@ -40,7 +40,6 @@ module _ (chart : Chart) (units : List UnitState) (s : IsSound chart units) (u :
     (own : slice_index_or slots u None ≡ None)
     (came : (v : ℕ) → v < length chart.units → v ≢ u → (update : Update) × (slice_index_or slots v None ≡ Some update))
     (made : (v : ℕ) (update : Update) → v < length chart.units → slice_index_or slots v None ≡ Some update → IsMade chart (hist_of units) v u (suc (taken (hist_of units u))) update) where
-
   abbrev h : ℕ → History
   h = hist_of units
 

@@ -1,5 +1,5 @@
 -- What a line does to the units of a world is what it does to the machine that counts for them.
-use Rattle.std.proofs.Common.{◌≡◌, ◌≢◌, ℕ, zero, suc, ◌+◌, ◌<◌, ◌≤◌, ◌==◌, ◌&&◌, ◌||◌, nat_le, min, not, Bool, true, false, cond, List, [], ◌∷◌, ◌++◌, map, filter, length, slice_get, slice_set, unwrap_or, Option, Some, None, is_some, option_map, Result, Ok, Err, refl, sym, ap, ap₂, ◌∙◌, arith, le-leb, rules}
+use Rattle.std.proofs.Common.{◌≡◌, ◌≢◌, ℕ, zero, suc, ◌+◌, ◌<◌, ◌≤◌, ◌==◌, ◌&&◌, ◌||◌, nat_le, min, not, Bool, true, false, cond, List, [], ◌∷◌, ◌++◌, map, filter, length, slice_get, slice_set, Option, Some, None, is_some, option_map, Result, Ok, Err, refl, sym, ap, ap₂, ◌∙◌, rules}
 use Rattle.std.specs.List.{range_with_len}
 use Rattle.std.proofs.lemmas.Bool.{cond-true, cond-false}
 use Rattle.std.proofs.lemmas.List.{map-append, length-map}
@@ -13,19 +13,18 @@ use Rattle.wf_model.specs.declared.update.Update.{Update}
 use Rattle.wf_disk.specs.declared.arm.Arm.{Arm}
 use Rattle.wf_disk.specs.declared.arm.Outcome.{Outcome}
 use Rattle.wf_machine.specs.declared.admission.Admission as of
-use Rattle.wf_machine.specs.declared.line.Line.{Line}
 use Rattle.wf_machine.specs.declared.line.Line.TheVariants as line
 use Rattle.wf_machine.specs.declared.reply.Reply.{Reply}
 use Rattle.wf_machine.specs.declared.reply.Reply.TheVariants as reply
 use Rattle.wf_machine.specs.declared.reply.TurnReply.{TurnReply}
 use Rattle.wf_machine.specs.declared.reply.TurnReply.TheVariants as turn
 use Rattle.wf_machine.specs.Strokes.{Fuse, Done, SetOff, strokes}
-use Rattle.wf_machine.specs.Bars.{Bar, Reopen, Down, bar_of, barred, turn_barred}
-use Rattle.wf_machine.specs.Server.{Health, Works, Failed, IsDown, Record, Admits, Turns, Server, taken as steps, later_than, fallen, written, next_turn, recovered}
+use Rattle.wf_machine.specs.Bars.{Bar, bar_of, barred, turn_barred}
+use Rattle.wf_machine.specs.Server.{Health, Works, Failed, IsDown, Record, Admits, Turns, Server, taken as steps, later_than, fallen, written, recovered}
 use Rattle.wf_machine.specs.Machine.{CountingMachine, Message, server, with_server, message_at}
 use Rattle.wf_machine.specs.Sights.{sight_of, items_of}
-use Rattle.wf_machine.specs.Lines.{Acted, told, done_at, bar_at, unless, turn_unless, same_outer, asked, answered, lets, admit_by, admit, missing, unit_set, turn_by, turned as turn_of, after_turn, crash_by, armed, counts_of, recover_by, show_by, letters, second_of, posted, send_by, send, with_came, received, come_by, deliver_by, deliver, act}
-use Rattle.wf_histories.specs.Histories.{Admission, History, taken}
+use Rattle.wf_machine.specs.Lines.{Acted, done_at, bar_at, unless, turn_unless, same_outer, asked, lets, admit_by, admit, missing, unit_set, turn_by, turned as turn_of, crash_by, armed, counts_of, recover_by, show_by, letters, second_of, posted, send_by, send, with_came, received, come_by, deliver_by, deliver, act}
+use Rattle.wf_histories.specs.Histories.{Admission, taken}
 use Rattle.wf_worlds.specs.Growing.{unsealed, admitted, turned}
 use Rattle.wf_world.specs.declared.mail.Sent.{Sent}
 use Rattle.wf_world.specs.Mail.{message_of, sent_at}

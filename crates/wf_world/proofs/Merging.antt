@@ -1,5 +1,5 @@
 -- Lists of places, one more at a time; and that the machine has them.
-use Rattle.std.proofs.Common.{◌≡◌, ℕ, zero, suc, ◌+◌, ◌-◌, ◌<◌, ◌≤◌, List, [], ◌∷◌, ◌++◌, map, flat_map, sum, take, drop, length, get_or, slice_get, unwrap_or, refl, sym, ap, ap₂, ◌∙◌, arith, append_assoc, drop-cons}
+use Rattle.std.proofs.Common.{◌≡◌, ℕ, suc, ◌+◌, ◌-◌, ◌<◌, List, [], ◌∷◌, ◌++◌, map, flat_map, drop, length, get_or, sym, ap, ap₂, ◌∙◌, arith, append_assoc, drop-cons}
 use Rattle.std.specs.List.{range_with_len, enumerate_from}
 use Rattle.wf_machine.specs.declared.admission.Place.{Place}
 use Rattle.wf_world.specs.Merged.{unit_places}

@@ -1,5 +1,5 @@
 -- A run of a world by its own relations is a play, for some outcomes of its doubts.
-use Rattle.std.proofs.Common.{◌≡◌, ◌⊎◌, inl, inr, ℕ, ◌||◌, Bool, true, false, List, [], ◌∷◌, refl, sym, ◌∙◌, ap, ap₂, subst}
+use Rattle.std.proofs.Common.{◌≡◌, inl, inr, ℕ, ◌||◌, Bool, true, false, List, [], ◌∷◌, refl, sym, ◌∙◌, ap, ap₂}
 use Rattle.wf_model.specs.declared.chart.Chart.{Chart}
 use Rattle.wf_machine.specs.declared.line.Line.{Line}
 use Rattle.wf_machine.specs.declared.reply.Reply.{Reply}
@@ -8,11 +8,10 @@ use Rattle.wf_machine.specs.Lines.{Acted, act}
 use Rattle.wf_machine.specs.Runs.{Outcomes, first_outcome, other_outcomes, replies_to, after_lines, ending}
 use Rattle.wf_world.specs.Sent.{is_over, passes}
 use Rattle.wf_drive.specs.Driven.{Runs, MayRefuse}
-use Rattle.wf_machine.specs.declared.ending.Ending.{Ending}
 use Rattle.wf_world.specs.declared.fault.ActFault.TheVariants as faults
 use Rattle.wf_world.specs.States as states
 use Rattle.wf_world.specs.States.{WorldState, Acts, Finishes, MayBreak}
-use Rattle.wf_world.specs.Plays.{IsPlay, RunsArePlays, RefusalsPass}
+use Rattle.wf_world.specs.Plays.{RunsArePlays, RefusalsPass}
 
 -- these outcomes lead from a state over the lines to these replies and this state, and never to too many bytes
 record Led (s : WorldState) (lines : List (ℕ × Line)) (given : List (ℕ × Reply)) (t : WorldState) (bs : List Bool) : Type 0 where

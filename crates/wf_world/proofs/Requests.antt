@@ -1,10 +1,10 @@
 -- What a machine answers to a request that an admission has.
-use Rattle.std.proofs.Common.{◌≡◌, ◌≢◌, ℕ, zero, suc, ◌+◌, ◌-◌, ◌<◌, ◌≤◌, ◌==◌, ◌&&◌, Bool, true, false, cond, List, [], ◌∷◌, map, length, slice_get, Option, Some, None, option_map, refl, sym, ◌∙◌, ap, ap₂, subst, arith, rules, nat_lt, true≢false, eqb-true, eq-eqb}
+use Rattle.std.proofs.Common.{◌≡◌, ℕ, suc, ◌+◌, ◌-◌, ◌≤◌, ◌==◌, ◌&&◌, Bool, true, false, List, [], ◌∷◌, map, slice_get, Some, None, refl, sym, ◌∙◌, ap, ap₂, arith, eqb-true, eq-eqb}
 use Rattle.std.specs.Prelude.{ℤ, nat_eq}
 use Rattle.std.specs.Bool.{Decides}
 use Rattle.std.specs.Cmp.{unsigned_Decides}
 use Rattle.std.specs.Cmp.Lexicographic.{pointwise}
-use Rattle.std.specs.List.{find, position, position_from, position_or_len, enumerate_from}
+use Rattle.std.specs.List.{find, position, position_from, enumerate_from}
 use Rattle.std.proofs.lemmas.Bool.{cond-true, cond-false}
 use Rattle.std.proofs.lemmas.Bool.Decides.{Decides-int_eq}
 use Rattle.std.proofs.lemmas.Slice.Eq.{slice_eq-Decides}
@@ -14,7 +14,6 @@ use Rattle.wf_model.specs.declared.value.Val.TheVariants as v
 use Rattle.wf_model.specs.declared.outer.Output.{Output}
 use Rattle.wf_model.specs.declared.outer.Outer.{Outer}
 use Rattle.wf_model.specs.declared.outer.Outer.TheVariants.{Happen, Complete}
-use Rattle.wf_model.specs.declared.ids.ActId.{ActId}
 use Rattle.wf_model.specs.Values.{is_equal}
 use Rattle.wf_machine.specs.declared.admission.Admission as of
 use Rattle.wf_machine.specs.Lines.{same_output, same_outer, asked}

@@ -1,5 +1,5 @@
 -- What is done to a unit keeps what holds of all units together.
-use Rattle.std.proofs.Common.{◌≡◌, ◌≢◌, ℕ, zero, suc, ◌+◌, ◌<◌, ◌≤◌, ◌==◌, cond, is_ok, min, Bool, true, false, List, [], ◌∷◌, length, slice_get, slice_set, unwrap_or, Option, Some, None, refl, sym, ap, ap₂, ◌∙◌, subst, arith, eqb-true, eq-eqb}
+use Rattle.std.proofs.Common.{◌≡◌, ◌≢◌, ℕ, zero, suc, ◌<◌, ◌≤◌, ◌==◌, cond, is_ok, min, Bool, true, false, List, [], ◌∷◌, length, slice_get, slice_set, unwrap_or, Option, Some, None, refl, sym, ap, ◌∙◌, subst, arith, eqb-true, eq-eqb}
 use Rattle.wf_model.specs.Limits.{max_sealed}
 use Rattle.wf_model.specs.declared.chart.Chart.{Chart}
 use Rattle.wf_model.specs.declared.update.Update.{Update}
@@ -10,7 +10,7 @@ use Rattle.wf_machine.specs.Server.{Record as Counted, Admits as CountedAdmits, 
 use Rattle.wf_histories.specs.Histories.{History, taken}
 use Rattle.wf_histories.specs.Agreement.{Agree, lean}
 use Rattle.wf_worlds.specs.Admitting.{lets_in}
-use Rattle.wf_worlds.specs.Growing.{GoesOn, Fits, Good, unsealed}
+use Rattle.wf_worlds.specs.Growing.{Fits, Good, unsealed}
 use Rattle.wf_worlds.specs.Worlds.{World, Record, with_unit, stood, IsMade, MayStand, Sound}
 use Rattle.wf_worlds.proofs.GoesOn.{taken_on}
 use Rattle.wf_worlds.proofs.Sounds.{stood_on, stands_sound, sound_is_lean}

@@ -1,5 +1,5 @@
 -- The first units of a world are those of the first machine, and sound.
-use Rattle.std.proofs.Common.{◌≡◌, ◌≢◌, ℕ, zero, suc, ◌+◌, ◌<◌, ◌≤◌, Bool, true, List, [], ◌∷◌, map, length, slice_get, unwrap_or, Option, Some, None, replicate, refl, sym, ap, ap₂, ◌∙◌, subst, arith}
+use Rattle.std.proofs.Common.{◌≡◌, ℕ, zero, suc, ◌+◌, ◌<◌, List, [], ◌∷◌, map, length, slice_get, unwrap_or, Some, None, replicate, refl, sym, ap, ◌∙◌, subst, arith}
 use Rattle.std.specs.List.{range_with_len}
 use Rattle.wf_model.specs.declared.chart.Chart.{Chart}
 use Rattle.wf_model.specs.declared.update.Update.{Update}
@@ -7,8 +7,8 @@ use Rattle.wf_model.specs.Accepted.{IsAccepted}
 use Rattle.wf_parts.specs.Parts.{part_of}
 use Rattle.wf_machine.specs.declared.admission.Admission as of
 use Rattle.wf_machine.specs.Server.{Server, Admits, Turns, new_server}
-use Rattle.wf_machine.specs.Machine.{CountingMachine, first_machine}
-use Rattle.wf_histories.specs.Histories.{History, taken}
+use Rattle.wf_machine.specs.Machine.{first_machine}
+use Rattle.wf_histories.specs.Histories.{History}
 use Rattle.wf_histories.specs.Agreement.{Agree, lean}
 use Rattle.wf_worlds.specs.Growing.{Fits, Good}
 use Rattle.wf_worlds.specs.Worlds.{first_history, first_world, Sound}

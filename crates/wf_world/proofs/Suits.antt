@@ -25,7 +25,7 @@ use Rattle.wf_views.specs.Views.{View}
 use Rattle.wf_views.specs.OwnSteps.{part_step, own_update}
 use Rattle.wf_lockstep.specs.Within.{is_at_unit}
 use Rattle.wf_lockstep.proofs.Within.{all_filter, own_within}
-use Rattle.wf_histories.specs.Histories.{History, taken, sealed_by, local}
+use Rattle.wf_histories.specs.Histories.{History, sealed_by, local}
 use Rattle.wf_steps.specs.Fitting.{is_state_from, is_event_from, is_act_from, is_outer_from, suits}
 use Rattle.wf_owns.specs.Sorted.{is_fit}
 use Rattle.wf_worlds.specs.Growing.{Good}
@@ -53,7 +53,7 @@ named : {A B : Type 0} (f : ℕ × A → B) (q : B → Bool) (p : A → Bool) (s
 named f q p s test k [] same each = refl
 named f q p s test k (x ∷ xs) same each =
     named_next f q p s k x (filter test (enumerate_from (k + 1) xs)) same (λ e. each 0 x (omega (arith, e)) refl)
-        (named f q p s test (k + 1) xs same (λ i y off at. each (suc i) y (omega (arith, off)) at)) (test (k, x))
+    (named f q p s test (k + 1) xs same (λ i y off at. each (suc i) y (omega (arith, off)) at)) (test (k, x))
 
 told_at : {A : Type 0} (p : A → Bool) (xs : List A) (s : ℕ) → option_map_or p (slice_get xs s) false ≡ true → (i : ℕ) (x : A) → 0 + i ≡ s → slice_get xs i ≡ Some x → p x ≡ true
 told_at {A} p xs s told i x off at =
@@ -61,18 +61,17 @@ told_at {A} p xs s told i x off at =
     sym (ap (λ (o : Option A). option_map_or p o false) (ap (λ (n : ℕ). slice_get xs n) same ∙ at)) ∙ told
 
 module _ (chart : Chart) (u v : ℕ) where
-
   state_from : (s : StateId) → is_state_of chart v s.0 ≡ true → is_state_from (part_of chart u) v s ≡ true
   unfolding part_of
   state_from s own =
       named (known_state chart) (λ (known : KnownState). not (known.id.0 == s.0) || (known.unit.0 == v)) (λ (state : State). state.unit.0 == v) s.0 (λ x. knows_state chart u x.0) 0 chart.states (λ y. refl)
-          (told_at (λ (state : State). state.unit.0 == v) chart.states s.0 own)
+      (told_at (λ (state : State). state.unit.0 == v) chart.states s.0 own)
 
   event_from : (e : ℕ) → is_event_at chart v e ≡ true → is_event_from (part_of chart u) v e ≡ true
   unfolding part_of
   event_from e own =
       named known_event (λ (known : KnownEvent). not (known.id.0 == e) || option_map_or (λ unit. unit.0 == v) known.unit false) (λ (event : Event). option_map_or (λ unit. unit.0 == v) event.unit false) e
-          (λ x. knows_event chart u x.0) 0 chart.events (λ y. refl) (told_at (λ (event : Event). option_map_or (λ unit. unit.0 == v) event.unit false) chart.events e own)
+      (λ x. knows_event chart u x.0) 0 chart.events (λ y. refl) (told_at (λ (event : Event). option_map_or (λ unit. unit.0 == v) event.unit false) chart.events e own)
 
   act_at : (a : ℕ) → is_act_at chart v a ≡ true → option_map_or (λ (act : Activity). act.unit.0 == v) (slice_get chart.acts a) false ≡ true
   act_at a = go (slice_get chart.acts a)
@@ -85,7 +84,7 @@ module _ (chart : Chart) (u v : ℕ) where
   unfolding part_of
   act_from a own =
       named (known_activity chart u) (λ (known : KnownActivity). not (known.id.0 == a) || (known.unit.0 == v)) (λ (act : Activity). act.unit.0 == v) a (λ x. knows_act chart u x.0) 0 chart.acts (λ y. refl)
-          (told_at (λ (act : Activity). act.unit.0 == v) chart.acts a (act_at a own))
+      (told_at (λ (act : Activity). act.unit.0 == v) chart.acts a (act_at a own))
 
   outer_from : (o : Outer) → is_at_unit chart v o ≡ true → is_outer_from (part_of chart u) v o ≡ true
   outer_from (Happen e) at = event_from e.0 at
@@ -131,14 +130,13 @@ own_flips : (chart : Chart) (v k : ℕ) (view : View) (os : List Outer) → list
 own_flips chart v k view os at =
     let update : Update = own_update (part_of chart v) k view os in
     (and_both (list_all (λ s. is_state_of chart v s.0) update.flips)
-        (list_all (λ write. (held_by chart v).vars write.var.0) update.writes && (list_all (λ e. (held_by chart v).events e.0) update.raised && (list_all (λ start. (held_by chart v).acts start.act.0) update.starts
-        && list_all (is_outer_within (held_by chart v)) update.outer))) (own_within chart v k view os at)).0
+    (list_all (λ write. (held_by chart v).vars write.var.0) update.writes && (list_all (λ e. (held_by chart v).events e.0) update.raised && (list_all (λ start. (held_by chart v).acts start.act.0) update.starts
+    && list_all (is_outer_within (held_by chart v)) update.outer))) (own_within chart v k view os at)).0
 
 -- A LETTER SUITS
 
 module _ (chart : Chart) (u v : ℕ) (known : Knowledge) (update : Update) (from : update.from.0 ≡ v) (flips : list_all (λ s. is_state_of chart v s.0) update.flips ≡ true)
     (outers : list_all (is_at_unit chart v) update.outer ≡ true) (fit : is_fit (part_of chart u) (cut_update known update) ≡ true) where
-
   by_sender : ℕ → Bool
   by_sender w = list_all (is_state_from (part_of chart u) w) (filter (λ s. known.states s.0) update.flips) && (list_all (is_outer_from (part_of chart u) w) (filter_map (cut_outer known) update.outer) && is_fit (part_of chart u) (cut_update known update))
 
@@ -146,8 +144,8 @@ module _ (chart : Chart) (u v : ℕ) (known : Knowledge) (update : Update) (from
   unfolding by_sender
   at_sender =
       and_true (list_all (is_state_from (part_of chart u) v) (filter (λ s. known.states s.0) update.flips)) (list_all (is_outer_from (part_of chart u) v) (filter_map (cut_outer known) update.outer) && is_fit (part_of chart u) (cut_update known update))
-          (states_from chart u v (filter (λ s. known.states s.0) update.flips) (all_filter (λ (s : StateId). is_state_of chart v s.0) (λ s. known.states s.0) update.flips flips))
-          (and_true (list_all (is_outer_from (part_of chart u) v) (filter_map (cut_outer known) update.outer)) (is_fit (part_of chart u) (cut_update known update)) (outers_from chart u v known update.outer outers) fit)
+      (states_from chart u v (filter (λ s. known.states s.0) update.flips) (all_filter (λ (s : StateId). is_state_of chart v s.0) (λ s. known.states s.0) update.flips flips))
+      (and_true (list_all (is_outer_from (part_of chart u) v) (filter_map (cut_outer known) update.outer)) (is_fit (part_of chart u) (cut_update known update)) (outers_from chart u v known update.outer outers) fit)
 
   cut_suits : suits (part_of chart u) (cut_update known update) ≡ true
   unfolding cut_update by_sender
@@ -158,7 +156,7 @@ letter_suits chart h u v j good fit =
     let own = sealed_pass (is_at_unit chart v) (h v) good.at_unit j in
     let view : View = local (part_of chart v) (h v) j in
     cut_suits chart u v (option_map_or is_listed (find (λ known. known.unit.0 == u) (peers_of chart v)) nothing) (own_update (part_of chart v) (suc j) view (sealed_by (h v) j))
-        (own_from chart v (suc j) view (sealed_by (h v) j)) (own_flips chart v (suc j) view (sealed_by (h v) j) own) (own_outers chart v (suc j) view (sealed_by (h v) j) own) fit
+    (own_from chart v (suc j) view (sealed_by (h v) j)) (own_flips chart v (suc j) view (sealed_by (h v) j) own) (own_outers chart v (suc j) view (sealed_by (h v) j) own) fit
 
 -- so whatever was made for a unit suits its part
 pub made_suits : (chart : Chart) (ok : IsAccepted chart) (units : List UnitState) (count : length units ≡ length chart.units) (s : IsSound chart units) (u v j : ℕ) (update : Update) → v < length chart.units → 1 ≤ j →

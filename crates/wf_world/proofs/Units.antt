@@ -1,5 +1,5 @@
 -- What is done to a unit is what the machine does to the server that counts for it.
-use Rattle.std.proofs.Common.{◌≡◌, ℕ, ◌+◌, ◌==◌, ◌&&◌, ◌||◌, min, Bool, true, false, List, [], ◌∷◌, ◌++◌, map, sum, length, slice_get, slice_set, unwrap_or, Option, Some, None, is_some, option_map, ◌-◌, refl, sym, ap, ap₂, ◌∙◌}
+use Rattle.std.proofs.Common.{◌≡◌, ℕ, ◌+◌, ◌==◌, ◌&&◌, ◌||◌, min, Bool, true, false, List, [], ◌∷◌, sum, slice_get, slice_set, unwrap_or, Option, Some, None, is_some, option_map, ◌-◌, sym, ap, ap₂, ◌∙◌}
 use Rattle.std.proofs.lemmas.List.{map-append, length-map, map-set}
 use Rattle.std.proofs.lemmas.Option.{slice_get-map}
 use Rattle.wf_model.specs.Limits.{max_sealed}
@@ -7,10 +7,10 @@ use Rattle.wf_model.specs.declared.update.Update.{Update}
 use Rattle.wf_disk.specs.declared.arm.Arm.{Arm}
 use Rattle.wf_disk.specs.declared.arm.Arm.TheVariants.{Fail, Crash}
 use Rattle.wf_machine.specs.declared.admission.Admission as of
-use Rattle.wf_machine.specs.Strokes.{Fuse, Met, Done, SetOff, strokes}
-use Rattle.wf_machine.specs.Bars.{Bar, bar_of}
-use Rattle.wf_machine.specs.Server.{Health, Works, Failed, IsDown, Record, Admits, Turns, Server, new_server, later_than, stand, fallen, written_by, written, next_turn, settled, recovered_by, recovered}
-use Rattle.wf_machine.specs.Machine.{CountingMachine, server, with_server}
+use Rattle.wf_machine.specs.Strokes.{Fuse, Done, SetOff, strokes}
+use Rattle.wf_machine.specs.Bars.{bar_of}
+use Rattle.wf_machine.specs.Server.{Works, Record, Admits, Turns, Server, new_server, later_than, stand, written_by, written, next_turn, settled, recovered_by, recovered}
+use Rattle.wf_machine.specs.Machine.{server, with_server}
 use Rattle.wf_machine.specs.Lines.{with_came}
 use Rattle.wf_histories.specs.Histories.{Admission, History, seals, taken}
 use Rattle.wf_worlds.specs.Growing.{unsealed, admitted, turned}

@@ -1,5 +1,5 @@
 -- Of other calls. The messages of a world, with their bytes.
-use Rattle.std.specs.Prelude.{◌≡◌, ◌<◌, ◌≤◌, ◌+◌, ℕ, zero, suc, List, [], ◌∷◌, length, slice_get, Option, None}
+use Rattle.std.specs.Prelude.{◌≡◌, ◌<◌, ◌≤◌, ◌+◌, ℕ, zero, suc, List, length, slice_get, Option, None}
 use Rattle.std.specs.List.{sum_by, AllByRecursion}
 use Rattle.wf_model.specs.Limits.{max_sent}
 use Rattle.wf_model.specs.declared.chart.Chart.{Chart}

@@ -1,11 +1,14 @@
-//! All servers of a chart, as a script drives them. A world is seen as its chart, the machine that counts for it, and how
-//! many lines it has acted. A line leads it as the machine goes, or it is refused because the bytes of all messages would
-//! be too many; and so do all lines of a script, whatever the records in doubt turn out to be.
+//! All servers of a chart, as a script drives them: what a world of them is to who runs it, and the
+//! parts of which a world is made.
 //!
-//! The laws say what a run of a world is: the replies and the ending of a play. They say nothing of who runs it: that is
-//! `wf_drive`, and `mentor play` puts both together.
-//!
-//! A change of what a line does begins in `wf_machine`; one of what a message's bytes are begins in `specs/Sent.antt`.
+//! - Promises: a run of a world by its own relations, with its end, is a play of the counting
+//!   machine (`runs_are_plays`), and one that its messages stop passes their limit
+//!   (`refusals_pass`). `Mail` keeps each message once, and refuses it just where all would be too
+//!   many bytes.
+//! - Doesn't say: that there is a world that goes so; the world itself is missing.
+//! - A caller: none; no command runs a play.
+//! - A change of what a line does begins in `wf_machine`, one of what a message's bytes are in
+//!   `specs/Sent.antt`.
 #![tactic(auto)]
 
 mod fault;

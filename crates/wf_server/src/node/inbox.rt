@@ -71,6 +71,31 @@ pub fn copies_of(alloc: Global, slots: &[Option<Update>]) -> Result<List<Update>
     Ok(inputs)
 }
 
+/// A slot for each unit, which holds nothing. It refuses only if memory runs out. In linear time in the units.
+pub fn nothing_came(alloc: Global, units: u32) -> Result<Vec<Option<Update>>, NoMemory>
+    ensures size { IfOk result (λ slots. length slots.items ≡ units) }
+    ensures none { IfOk result (λ slots. (v : ℕ) → held_in slots.items v ≡ None) }
+{
+    let mut slots = Vec::new(alloc);
+    for _ in 0..units {
+        slots.push(None)?;
+    }
+    Ok(slots)
+}
+
+/// What is held of the next step and of the one behind it, if nothing came.
+pub fn empty_inboxes(
+    alloc: Global,
+    units: u32,
+) -> Result<(Vec<Option<Update>>, Vec<Option<Update>>), NoMemory>
+    ensures sizes { IfOk result (λ both. (length both.0.items ≡ units) × (length both.1.items ≡ units)) }
+    ensures none { IfOk result (λ both. (v : ℕ) → (held_in both.0.items v ≡ None) × (held_in both.1.items v ≡ None)) }
+{
+    let came = nothing_came(alloc, units)?;
+    let early = nothing_came(alloc, units)?;
+    Ok((came, early))
+}
+
 /// What came early is what came now, and nothing came early. Takes no memory.
 pub fn go_on(came: &mut Vec<Option<Update>>, early: &mut Vec<Option<Update>>)
     ensures came { came.new.items ≡ early.old.items }

@@ -1,25 +1,78 @@
 //! How a node is started.
-ghost use Rattle.std.specs.Prelude.{◌≡◌, ◌+◌, ℕ, List, Some, IfOk, IfErr};
+ghost use Rattle.std.specs.Prelude.{◌≡◌, ◌+◌, ℕ, List, Some, false, IfOk, IfErr};
 ghost use Rattle.wf_disk.specs.Disk.{LeavesOnly};
+ghost use Rattle.wf_journal.specs.Start.{CanBeRead};
 ghost use Rattle.wf_steps.specs.Growing.{IsMade};
 ghost use Rattle.wf_steps.specs.Records.{history_of};
 ghost use Rattle.std.specs.Prelude.{Ok};
 ghost use Rattle.wf_server.specs.Images.{HoldsOneOf};
+ghost use Rattle.wf_server.specs.Heads.{Stretch, HeadStrokes, IsStill, ReadFails};
 ghost use Rattle.wf_server.specs.Starting.{StartFails, IsStarted, StartRuns, strokes_on};
 
 use crate::NodeFault;
+use crate::node::head::read_unit;
+use crate::node::inbox::empty_inboxes;
 use crate::node::{Node, StartRefused};
 use std::alloc::Global;
 use wf_disk::Disk;
+use wf_journal::Journal;
 use wf_parts::Part;
 
 impl<D: Disk> Node<D> {
+    // The node of a journal as it was opened.
+    fn of_journal(
+        alloc: Global,
+        part: Part,
+        journal: Journal<D>,
+    ) -> Result<Node<D>, StartRefused<D>>
+        requires healthy { journal.failed ≡ false }
+        requires readable { CanBeRead (D.told journal.disk) }
+        requires still { IsStill (D.told journal.disk) }
+        ensures history { IfOk result (λ node. (file : List ℕ) → (D.told journal.disk).image ≡ Some file → history_of part file ≡ Ok node.past) }
+        ensures started { IfOk result (IsStarted part) }
+        ensures made { IfOk result (λ node. IsMade part node.past) }
+        ensures refused { IfErr result (λ refused. (file : List ℕ) → (D.told journal.disk).image ≡ Some file → ReadFails (history_of part file) refused.fault) }
+        ensures given_back { IfErr result (λ refused. refused.part ≡ part) }
+
+        // The disk.
+        ensures stretch { IfOk result (λ node. Stretch part (D.told journal.disk) (D.told node.journal.disk) 4 ⊥) }
+        ensures stretch_refused { IfErr result (λ refused. Stretch part (D.told journal.disk) (D.told refused.disk) 4 (refused.fault ≡ NodeFault.DiskFailed)) }
+        ensures strokes { IfOk result (λ node. HeadStrokes (D.told journal.disk) (D.told node.journal.disk)) }
+    {
+        let mut journal = journal;
+        let Ok((came, early)) = empty_inboxes(alloc, part.data().units) else {
+            return Err(StartRefused {
+                fault: NodeFault::NoMemory,
+                part,
+                disk: journal.close(),
+            });
+        };
+        match read_unit(alloc, part, &mut journal) {
+            Ok(replica) => {
+                let _made = replica.history();
+                Ok(Node {
+                    journal,
+                    replica,
+                    came,
+                    early,
+                    ready: None,
+                    alloc,
+                })
+            }
+            Err(refused) => Err(StartRefused {
+                fault: NodeFault::from(refused.fault),
+                part: refused.part,
+                disk: journal.close(),
+            }),
+        }
+    }
+
     /// Starts a node on a disk: it opens the journal, writes the head record on one without frames, and recovers the history. The refusal
     /// is what the journal's start answers, and only then what the recovery answers, so that `BadFrame` comes before `Foreign` and
     /// `BadRecord`; each comes exactly if the image is so. Part and disk are given back at a refusal, and the disk's history is as
     /// before. A crash meanwhile leaves a history that a crash just before could leave. In linear time in the journal, with one frame
     /// in memory at a time beside the history.
-    pub fn start(_alloc: Global, part: Part, disk: D) -> Result<Node<D>, StartRefused<D>>
+    pub fn start(alloc: Global, part: Part, disk: D) -> Result<Node<D>, StartRefused<D>>
         ensures history { IfOk result (λ node. (file : List ℕ) → (D.told disk).image ≡ Some file → history_of part file ≡ Ok node.past) }
         ensures started { IfOk result (IsStarted part) }
         ensures made { IfOk result (λ node. IsMade part node.past) }
@@ -38,10 +91,13 @@ impl<D: Disk> Node<D> {
         ensures runs { IfOk result (λ node. StartRuns (D.told disk) (D.told node.journal.disk) ⊥) }
         ensures runs_refused { IfErr result (λ refused. StartRuns (D.told disk) (D.told refused.disk) (refused.fault ≡ NodeFault.DiskFailed)) }
     {
-        Err(StartRefused {
-            fault: NodeFault::NoMemory,
-            part,
-            disk,
-        })
+        match Journal::start(alloc, disk) {
+            Ok(journal) => Node::of_journal(alloc, part, journal),
+            Err(refused) => Err(StartRefused {
+                fault: NodeFault::from(refused.fault),
+                part,
+                disk: refused.disk,
+            }),
+        }
     }
 }

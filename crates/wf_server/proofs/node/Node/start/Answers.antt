@@ -1,7 +1,52 @@
-use Rattle.std.proofs.Common.{refl}
-use Rattle.wf_disk.proofs.Runs.{started}
-use Rattle.wf_server.specs.Images.{HoldsOneOf}
+use Rattle.std.proofs.Common.{◌≡◌, rules, arith, sym, ap, ◌∙◌, subst}
+use Rattle.std.specs.Prelude.{Ok}
+use Rattle.wf_journal.specs.declared.fault.StartFault.TheVariants as starts
+use Rattle.wf_server.specs.declared.fault.NodeFault.TheVariants as faults
+use Rattle.wf_server.specs.Starting.{StartFails, unstarted_by}
+use Rattle.wf_server.proofs.Stretches.{runs_more, runs_as}
+use Rattle.wf_server.proofs.Starts.{if_ok, if_err, whole_stretch, start_history, refused_here, strokes_then, start_keeps, start_stretch_refused, unstarted_fails, unstarted_failed}
 use Rattle.wf_server.proofs.node.Node.start.Goals as goal
 
-pub returns-clause-crash_refused : goal.returns-clause-crash_refused
-returns-clause-crash_refused g c = λ file is. started (g.D.Disk.told c.args.disk) (HoldsOneOf c.args.part (g.D.Disk.told c.args.disk).may_leave) (g.met.D.Disk.lawful c.args.disk) (λ image may. (image, may, refl))
+pub returns-in-Ok-clause-history : goal.returns-in-Ok-clause-history
+returns-in-Ok-clause-history g c = if_ok c.of_journal.result _ _ (λ node h. start_history c.args.part (g.D.Disk.told c.args.disk) (g.D.Disk.told c.in-Ok.journal.disk) c.in-Ok.ensures.kept (λ wanted. wanted ≡ Ok node.past) h) c.of_journal.ensures.history
+
+pub returns-in-Ok-clause-refused : goal.returns-in-Ok-clause-refused
+returns-in-Ok-clause-refused g c = if_err c.of_journal.result _ _ (λ refused h. refused_here c.args.part (g.D.Disk.told c.args.disk) (g.D.Disk.told c.in-Ok.journal.disk) refused.fault c.in-Ok.ensures.kept c.in-Ok.ensures.whole h) c.of_journal.ensures.refused
+
+pub returns-in-Ok-clause-kept : goal.returns-in-Ok-clause-kept
+returns-in-Ok-clause-kept g c = if_err c.of_journal.result _ _ (λ refused s. (whole_stretch c.args.part (g.D.Disk.told c.args.disk) (g.D.Disk.told c.in-Ok.journal.disk) _ _ (g.met.D.Disk.lawful c.in-Ok.journal.disk) c.in-Ok.ensures.kept c.in-Ok.ensures.any_moment c.in-Ok.ensures.plan c.in-Ok.ensures.faults c.in-Ok.ensures.most s).keeps.image) c.of_journal.ensures.stretch_refused
+
+pub returns-in-Ok-clause-crash : goal.returns-in-Ok-clause-crash
+returns-in-Ok-clause-crash g c = if_ok c.of_journal.result _ _ (λ node s. (whole_stretch c.args.part (g.D.Disk.told c.args.disk) (g.D.Disk.told c.in-Ok.journal.disk) _ _ (g.met.D.Disk.lawful c.in-Ok.journal.disk) c.in-Ok.ensures.kept c.in-Ok.ensures.any_moment c.in-Ok.ensures.plan c.in-Ok.ensures.faults c.in-Ok.ensures.most s).keeps.crash) c.of_journal.ensures.stretch
+
+pub returns-in-Ok-clause-crash_refused : goal.returns-in-Ok-clause-crash_refused
+returns-in-Ok-clause-crash_refused g c = if_err c.of_journal.result _ _ (λ refused s. (whole_stretch c.args.part (g.D.Disk.told c.args.disk) (g.D.Disk.told c.in-Ok.journal.disk) _ _ (g.met.D.Disk.lawful c.in-Ok.journal.disk) c.in-Ok.ensures.kept c.in-Ok.ensures.any_moment c.in-Ok.ensures.plan c.in-Ok.ensures.faults c.in-Ok.ensures.most s).keeps.crash) c.of_journal.ensures.stretch_refused
+
+pub returns-in-Ok-clause-strokes : goal.returns-in-Ok-clause-strokes
+returns-in-Ok-clause-strokes g c = if_ok c.of_journal.result _ _ (λ node h. strokes_then (g.D.Disk.told c.args.disk) (g.D.Disk.told c.in-Ok.journal.disk) (g.D.Disk.told node.journal.disk) c.in-Ok.ensures.kept c.in-Ok.ensures.strokes h) c.of_journal.ensures.strokes
+
+pub returns-in-Ok-clause-runs : goal.returns-in-Ok-clause-runs
+returns-in-Ok-clause-runs g c = if_ok c.of_journal.result _ _ (λ node s. (whole_stretch c.args.part (g.D.Disk.told c.args.disk) (g.D.Disk.told c.in-Ok.journal.disk) _ _ (g.met.D.Disk.lawful c.in-Ok.journal.disk) c.in-Ok.ensures.kept c.in-Ok.ensures.any_moment c.in-Ok.ensures.plan c.in-Ok.ensures.faults c.in-Ok.ensures.most s).runs) c.of_journal.ensures.stretch
+
+pub returns-in-Ok-clause-runs_refused : goal.returns-in-Ok-clause-runs_refused
+returns-in-Ok-clause-runs_refused g c = if_err c.of_journal.result _ _ (λ refused s. (whole_stretch c.args.part (g.D.Disk.told c.args.disk) (g.D.Disk.told c.in-Ok.journal.disk) _ _ (g.met.D.Disk.lawful c.in-Ok.journal.disk) c.in-Ok.ensures.kept c.in-Ok.ensures.any_moment c.in-Ok.ensures.plan c.in-Ok.ensures.faults c.in-Ok.ensures.most s).runs) c.of_journal.ensures.stretch_refused
+
+pub returns-in-Err-clause-refused : goal.returns-in-Err-clause-refused
+returns-in-Err-clause-refused g c = λ file at.
+    let is : c.from.result ≡ unstarted_by c.in-Err.refused.fault = search (rules, c.from.ensures) in
+    subst (StartFails c.args.part file) (sym is) (unstarted_fails c.args.part (g.D.Disk.told c.args.disk) (g.D.Disk.told c.in-Err.refused.disk) c.in-Err.refused.fault c.in-Err.ensures.bad file at)
+
+pub returns-in-Err-clause-kept : goal.returns-in-Err-clause-kept
+returns-in-Err-clause-kept g c = (start_keeps c.args.part (g.D.Disk.told c.args.disk) (g.D.Disk.told c.in-Err.refused.disk) c.in-Err.ensures.kept_refused c.in-Err.ensures.any_moment_refused).image
+
+pub returns-in-Err-clause-crash_refused : goal.returns-in-Err-clause-crash_refused
+returns-in-Err-clause-crash_refused g c = (start_keeps c.args.part (g.D.Disk.told c.args.disk) (g.D.Disk.told c.in-Err.refused.disk) c.in-Err.ensures.kept_refused c.in-Err.ensures.any_moment_refused).crash
+
+pub returns-in-Err-clause-runs_refused : goal.returns-in-Err-clause-runs_refused
+returns-in-Err-clause-runs_refused g c =
+    let old = g.D.Disk.told c.args.disk in
+    let new = g.D.Disk.told c.in-Err.refused.disk in
+    let is : c.from.result ≡ unstarted_by c.in-Err.refused.fault = search (rules, c.from.ensures) in
+    runs_as old new 7 (c.in-Err.refused.fault ≡ starts.DiskFailed) (c.from.result ≡ faults.DiskFailed) (λ e. is ∙ ap unstarted_by e) (λ e. unstarted_failed c.in-Err.refused.fault (sym is ∙ e))
+    (runs_more old new 3 7 (c.in-Err.refused.fault ≡ starts.DiskFailed) (omega arith)
+    (start_stretch_refused c.args.part old new (c.in-Err.refused.fault ≡ starts.DiskFailed) c.in-Err.ensures.kept_refused c.in-Err.ensures.any_moment_refused c.in-Err.ensures.plan_refused c.in-Err.ensures.safe c.in-Err.ensures.cause).runs)

@@ -1,0 +1,36 @@
+-- What a recovery says of the disk as it was before the head.
+use Rattle.std.proofs.Common.{◌≡◌, ◌≢◌, ℕ, ◌+◌, if◌then◌else◌, Bool, true, false, List, [], Option, Some, refl, sym, ap, ◌∙◌, subst, arith}
+use Rattle.std.specs.Prelude.{is_some, Result, Ok, Err, IfOk, IfErr, IsErrAnd}
+use Rattle.wf_disk.specs.Disk.{Told, IsSame}
+use Rattle.wf_journal.specs.Frames.{bodies_of}
+use Rattle.wf_journal.specs.Start.{CanBeRead}
+use Rattle.wf_parts.specs.declared.data.PartData.{PartData}
+use Rattle.wf_histories.specs.Histories.{History}
+use Rattle.wf_steps.specs.declared.fault.RecoverFault.{RecoverFault}
+use Rattle.wf_steps.specs.Records.{history_of}
+use Rattle.wf_steps.specs.Recovering.{IsFault, OfImage}
+use Rattle.wf_server.specs.Starting.{has_none}
+use Rattle.wf_server.specs.Heads.{KeepsHistory, Stretch, HeadStrokes, IsStill, IsEmpty, IsBegun, IsOpen}
+use Rattle.wf_server.proofs.Stretches.{told_too}
+use Rattle.wf_server.proofs.Empty.{has_none_of, has_some_of}
+
+module _ (part : PartData) (old mid : Told) (keeps : KeepsHistory part old mid) (tells : is_some mid.image ≡ is_some old.image) (readable : CanBeRead mid) {A E : Type 0} where
+  pub read_ok : (result : Result A E) (past : A → History) → OfImage mid part (λ wanted. IfOk result (λ x. wanted ≡ Ok (past x))) → IfOk result (λ x. (file : List ℕ) → old.image ≡ Some file → history_of part file ≡ Ok (past x))
+  read_ok (Ok x) past of = λ file is. let here = told_too old.image mid.image tells file is in sym (keeps.image file here.0 is here.1) ∙ of here.0 here.1 (readable here.0 here.1)
+  read_ok (Err e) past of = tt
+
+  pub read_err : (result : Result A E) (fault : E → RecoverFault) → OfImage mid part (λ wanted. IfErr result (λ x. IsFault wanted (fault x))) → IfErr result (λ x. (file : List ℕ) → old.image ≡ Some file → IsFault (history_of part file) (fault x))
+  read_err (Ok x) fault of = tt
+  read_err (Err e) fault of = λ file is.
+      let here = told_too old.image mid.image tells file is in
+      let P : Result History RecoverFault → Type 0 = λ wanted. IsFault wanted (fault e) in
+      subst P (keeps.image file here.0 is here.1) (of here.0 here.1 (readable here.0 here.1))
+
+module _ (part : PartData) (old new : Told) (most : ℕ) {A E : Type 0} where
+  pub stretch_ok : (result : Result A E) (P : E → Type 0) → Stretch part old new most (IsErrAnd result P) → IfOk result (λ _. Stretch part old new most ⊥)
+  stretch_ok (Ok x) P s = s
+  stretch_ok (Err e) P s = tt
+
+  pub stretch_err : (result : Result A E) (P : E → Type 0) → Stretch part old new most (IsErrAnd result P) → IfErr result (λ e. Stretch part old new most (P e))
+  stretch_err (Ok x) P s = tt
+  stretch_err (Err e) P s = s

@@ -1,0 +1,152 @@
+-- How a start opens its journal, and goes on.
+use Rattle.std.proofs.Common.{◌≡◌, ◌≢◌, ℕ, ◌+◌, ◌≤◌, ◌<◌, ◌||◌, not, nat_lt, if◌then◌else◌, Bool, true, false, true≢false, List, [], length, Option, Some, None, refl, sym, ap, ap₂, ◌∙◌, subst, inl, inr, ⊎_elim, arith, rules}
+use Rattle.std.specs.Prelude.{◌⊎◌, is_some, Result, Ok, Err, IfOk, IfErr}
+use Rattle.wf_disk.specs.Disk.{Told, IsLawful, IsSafeFor, HasCause, LeavesOnly}
+use Rattle.wf_disk.proofs.Runs.{weaker, cause_none}
+use Rattle.wf_journal.specs.Frames.{bodies_of, is_broken, can_start}
+use Rattle.wf_journal.specs.Journal.{IsLeft, HasBodiesOf, KeepsBodies}
+use Rattle.wf_journal.specs.Plan.{WentOn, Struck, StartMeetsPlan}
+use Rattle.wf_journal.specs.Start.{start_strokes, TakesStrokes, IsWhole, IsBadAt, LeavesStart}
+use Rattle.wf_journal.specs.declared.fault.StartFault.{StartFault}
+use Rattle.wf_journal.specs.declared.fault.StartFault.TheVariants as starts
+use Rattle.wf_parts.specs.declared.data.PartData.{PartData}
+use Rattle.wf_histories.specs.Histories.{History}
+use Rattle.wf_steps.specs.declared.fault.RecoverFault.{RecoverFault}
+use Rattle.wf_steps.specs.declared.fault.RecoverFault.TheVariants as recovery
+use Rattle.wf_steps.specs.Recovering.{IsFault}
+use Rattle.wf_steps.specs.Records.{history_in, history_of}
+use Rattle.wf_server.specs.declared.fault.NodeFault.{NodeFault}
+use Rattle.wf_server.specs.declared.fault.NodeFault.TheVariants as faults
+use Rattle.wf_server.specs.Images.{HoldsOneOf}
+use Rattle.wf_server.specs.Starting.{BreaksAt, StartFails, has_none, strokes_on, unstarted_by, unrecovered_by, RunsFor}
+use Rattle.wf_server.specs.Heads.{KeepsHistory, Stretch, HeadStrokes, IsStill, ReadFails}
+use Rattle.wf_server.proofs.Standing.{told_before, some_is}
+use Rattle.wf_server.proofs.Stretches.{told_too, struck_more, stretch_then}
+use Rattle.wf_server.proofs.Empty.{short_none, has_none_of}
+
+pub same_bodies : (part : PartData) (a b : List ℕ) → bodies_of a ≡ bodies_of b → history_of part a ≡ history_of part b
+unfolding history_of
+same_bodies part a b e = ap (history_in part) e
+
+-- THE JOURNAL'S START
+
+few_strokes : (image : Option (List ℕ)) → start_strokes image ≤ 3
+few_strokes None = omega arith
+few_strokes (Some file) = go (nat_lt (length file) 2)
+  where
+    go : (short : Bool) → (if short then 3 else 1) ≤ 3
+    go true = omega arith
+    go false = omega arith
+
+pub start_keeps : (part : PartData) (old new : Told) → KeepsBodies old new → LeavesStart old new → KeepsHistory part old new
+start_keeps part old new kept leaves = record {
+  image = λ file now was is. same_bodies part now file (kept.bodies file now was is);
+  crash = λ file is. weaker old new (HasBodiesOf old.may_leave) (HoldsOneOf part old.may_leave) (leaves file is) (λ c has. (has.0, has.1, same_bodies part c has.0 has.2));
+}
+
+pub start_stretch : (part : PartData) (old new : Told) → KeepsBodies old new → LeavesStart old new → WentOn old new → new.faults ≡ old.faults → Stretch part old new 3 ⊥
+start_stretch part old new kept leaves went same = record {
+  runs = record {
+    done = λ _. went;
+    struck = λ none. absurd none;
+    safe = λ safe none. none;
+    cause = cause_none old new ⊥ same (λ none. none);
+    tells = kept.tells;
+  };
+  keeps = start_keeps part old new kept leaves;
+}
+
+pub start_stretch_refused : (part : PartData) (old new : Told) (failed : Type 0) → KeepsBodies old new → LeavesStart old new → StartMeetsPlan old new failed → (IsSafeFor old (start_strokes old.image + 1) → failed → ⊥) → HasCause old new failed → Stretch part old new 3 failed
+start_stretch_refused part old new failed kept leaves plan safe cause = record {
+  runs = record {
+    done = plan.done;
+    struck = λ fails. ⊎_elim (λ s. inl (struck_more old new (start_strokes old.image) 3 (few_strokes old.image) s)) (λ d. inr (d.went_on, d.down)) (plan.struck fails);
+    safe = λ sound fails. safe (λ n after within. sound n after (let few = few_strokes old.image in omega (arith, few, within))) fails;
+    cause = cause;
+    tells = kept.tells;
+  };
+  keeps = start_keeps part old new kept leaves;
+}
+
+pub start_still : (old new : Told) (place : ℕ) → is_some new.image ≡ is_some old.image → IsLeft old new place [] → IsStill new
+start_still old new place tells left file is =
+    let was = told_before new.image old.image file tells is in
+    let now = left was.0 was.1 in
+    subst (λ f. (c : List ℕ) → new.may_leave c → c ≡ f) (some_is (sym now.1.image ∙ is)) now.1.settled.only
+
+-- THE ANSWERS
+
+pub can_start_of : (old : Told) → IsWhole old → (file : List ℕ) → old.image ≡ Some file → can_start file ≡ true
+can_start_of old whole file is = go (nat_lt (length file) 2) refl
+  where
+    go : (short : Bool) → nat_lt (length file) 2 ≡ short → (short || not (is_broken file)) ≡ true
+    go true e = refl
+    go false e = let long : 2 ≤ length file = search (rules, e) in ap not (whole file is long)
+
+pub read_fails : (wanted : Result History RecoverFault) (fault : RecoverFault) → IsFault wanted fault → ReadFails wanted (unrecovered_by fault)
+read_fails wanted (recovery.Foreign kept names) is = is
+read_fails wanted (recovery.BadRecord at first) is = is
+read_fails wanted recovery.DiskFailed is = tt
+read_fails wanted recovery.NoMemory is = tt
+
+pub start_fails : (part : PartData) (file : List ℕ) (wanted : Result History RecoverFault) (fault : NodeFault) → can_start file ≡ true → history_of part file ≡ wanted → ReadFails wanted fault → StartFails part file fault
+start_fails part file wanted (faults.Foreign kept names) can same is = (can, same ∙ is)
+start_fails part file wanted (faults.BadRecord at first) can same is = (can, same ∙ is)
+start_fails part file wanted (faults.BadFrame at) can same is = absurd is
+start_fails part file wanted faults.DiskFailed can same is = tt
+start_fails part file wanted faults.NoMemory can same is = tt
+
+pub unstarted_fails : (part : PartData) (old new : Told) (fault : StartFault) → ((at : ℕ) → fault ≡ starts.BadFrame at → IsBadAt old new at) → (file : List ℕ) → old.image ≡ Some file → StartFails part file (unstarted_by fault)
+unstarted_fails part old new (starts.BadFrame at) bad file is = let b = bad at refl file is in (b.0, b.1, b.2)
+unstarted_fails part old new starts.DiskFailed bad file is = tt
+unstarted_fails part old new starts.NoMemory bad file is = tt
+
+pub unstarted_failed : (fault : StartFault) → unstarted_by fault ≡ faults.DiskFailed → fault ≡ starts.DiskFailed
+unstarted_failed (starts.BadFrame at) e = cc e
+unstarted_failed starts.DiskFailed e = refl
+unstarted_failed starts.NoMemory e = cc e
+
+pub unrecovered_failed : (fault : RecoverFault) → unrecovered_by fault ≡ faults.DiskFailed → fault ≡ recovery.DiskFailed
+unrecovered_failed (recovery.Foreign kept names) e = cc e
+unrecovered_failed (recovery.BadRecord at first) e = cc e
+unrecovered_failed recovery.DiskFailed e = refl
+unrecovered_failed recovery.NoMemory e = cc e
+
+-- THE STROKES
+
+sums : (short none : Bool) → (short ≡ true → none ≡ true) → (if short then 3 else 1) + (if none then 4 else 0) ≡ (if short then 7 else (if none then 5 else 1))
+sums true true so = refl
+sums true false so = absurd (true≢false (sym (so refl)))
+sums false true so = refl
+sums false false so = refl
+
+pub strokes_then : (old mid new : Told) → KeepsBodies old mid → TakesStrokes old mid → HeadStrokes mid new → (file : List ℕ) → old.image ≡ Some file → new.clock ≡ old.clock + strokes_on file
+strokes_then old mid new kept first second file is =
+    let here = told_too old.image mid.image kept.tells file is in
+    let none : has_none (bodies_of here.0) ≡ has_none (bodies_of file) = ap has_none (kept.bodies file here.0 is here.1) in
+    let one : mid.clock ≡ old.clock + (if nat_lt (length file) 2 then 3 else 1) = first file is in
+    let two : new.clock ≡ mid.clock + (if has_none (bodies_of file) then 4 else 0) = second here.0 here.1 ∙ ap (λ (b : Bool). mid.clock + (if b then 4 else 0)) none in
+    let all = sums (nat_lt (length file) 2) (has_none (bodies_of file)) (λ short. has_none_of (bodies_of file) (short_none file (let few : length file < 2 = search (rules, short) in few))) in
+    omega (arith, one, two, all)
+
+-- A JOURNAL THAT WAS OPENED, AND WHAT CAME THEN
+
+pub if_ok : {A E : Type 0} (r : Result A E) (P Q : A → Type 0) → ((x : A) → P x → Q x) → IfOk r P → IfOk r Q
+if_ok (Ok x) P Q to h = to x h
+if_ok (Err e) P Q to h = tt
+
+pub if_err : {A E : Type 0} (r : Result A E) (P Q : E → Type 0) → ((e : E) → P e → Q e) → IfErr r P → IfErr r Q
+if_err (Ok x) P Q to h = tt
+if_err (Err e) P Q to h = to e h
+
+pub whole_stretch : (part : PartData) (old mid new : Told) (failed : Type 0) → IsLawful mid → KeepsBodies old mid → LeavesStart old mid → WentOn old mid → mid.faults ≡ old.faults → mid.clock ≤ old.clock + 3 → Stretch part mid new 4 failed → Stretch part old new 7 failed
+whole_stretch part old mid new failed lawful kept leaves went faults most s = stretch_then part old mid new 3 4 ⊥ failed (λ none. none) most lawful (start_stretch part old mid kept leaves went faults) s
+
+pub start_history : (part : PartData) (old mid : Told) → KeepsBodies old mid → (P : Result History RecoverFault → Type 0) → ((file : List ℕ) → mid.image ≡ Some file → P (history_of part file)) → (file : List ℕ) → old.image ≡ Some file → P (history_of part file)
+start_history part old mid kept P of file is =
+    let here = told_too old.image mid.image kept.tells file is in
+    subst P (same_bodies part here.0 file (kept.bodies file here.0 is here.1)) (of here.0 here.1)
+
+pub refused_here : (part : PartData) (old mid : Told) (fault : NodeFault) → KeepsBodies old mid → IsWhole old → ((file : List ℕ) → mid.image ≡ Some file → ReadFails (history_of part file) fault) → (file : List ℕ) → old.image ≡ Some file → StartFails part file fault
+refused_here part old mid fault kept whole of file is =
+    start_fails part file (history_of part file) fault (can_start_of old whole file is) refl (start_history part old mid kept (λ wanted. ReadFails wanted fault) of file is)

@@ -2,7 +2,9 @@
 ghost use Rattle.std.specs.Prelude.{◌≡◌, ◌⊎◌, ◌+◌, ◌≤◌, suc, ℕ, true, false, Some, List, length, IfOk};
 ghost use Rattle.std.specs.Option.{option_copied};
 ghost use Rattle.wf_histories.specs.Histories.{taken, local_update};
+ghost use Rattle.wf_steps.specs.Growing.{IsMade};
 ghost use Rattle.wf_steps.specs.Items.{items_of, item_steps};
+ghost use Rattle.wf_worlds.specs.Growing.{Fits};
 ghost use Rattle.wf_server.specs.Servers.{held};
 ghost use Rattle.wf_server.specs.Images.{Holds, HoldsOn};
 ghost use Rattle.wf_server.specs.Sending.{shown_state, shown_var};
@@ -92,9 +94,12 @@ impl<D: Disk> Node<D> {
         self.journal.disk()
     }
 
-    /// The history, lent. Takes no memory.
+    /// The history, lent: some records made it, each of which may follow those before it, and it seals no more than was admitted. Takes
+    /// no memory.
     pub fn history(&self) -> &History
-        ensures { result.now.past ≡ self.now.past }
+        ensures past { result.now.past ≡ self.now.past }
+        ensures made { IsMade self.now.part self.now.past }
+        ensures fits { Fits self.now.past }
     {
         self.replica.history()
     }

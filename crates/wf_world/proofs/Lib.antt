@@ -12,5 +12,3 @@ pub mod Endings
 pub mod Starting
 pub mod Showing
 pub mod Suits
-pub mod Merging
-pub mod MergedIs

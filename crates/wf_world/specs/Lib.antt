@@ -6,4 +6,3 @@ pub mod Fuses
 pub mod Units
 pub mod Sounds
 pub mod Shown
-pub mod Merged

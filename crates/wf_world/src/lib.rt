@@ -15,7 +15,6 @@ mod fault;
 mod fuse;
 mod laws;
 mod mail;
-mod merged;
 mod sight;
 
 pub use fault::ActFault;

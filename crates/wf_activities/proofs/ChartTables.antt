@@ -1,27 +1,22 @@
 -- The tables of a chart, as they are made.
-use Rattle.std.proofs.Common.{◌≡◌, ℕ, ◌+◌, ◌<◌, ◌≤◌, List, [], ◌∷◌, ◌++◌, length, map, replicate, take, get_or, Option, Some, None, refl, sym, ◌∙◌, ap, ap₂, arith}
+use Rattle.std.proofs.Common.{◌≡◌, ℕ, ◌+◌, ◌<◌, ◌≤◌, List, [], ◌∷◌, ◌++◌, length, replicate, take, get_or, Option, Some, None, refl, sym, ◌∙◌, ap}
 use Rattle.std.specs.List.{slice_get, cons_option}
 use Rattle.std.specs.Option.{option_map}
-use Rattle.std.proofs.lemmas.Bool.{leb-true}
 use Rattle.std.proofs.lemmas.List.{take_more, length-replicate}
 use Rattle.wf_model.specs.Limits.{max_units, max_acts}
 use Rattle.wf_model.specs.declared.ids.VarId.{VarId}
 use Rattle.wf_model.specs.declared.value.Sort.{Sort}
 use Rattle.wf_model.specs.declared.chart.Variable.{Variable}
 use Rattle.wf_model.specs.declared.chart.Chart.{Chart}
-use Rattle.wf_model.specs.Accepted.{IsAccepted, is_small}
-use Rattle.wf_semantics.proofs.Facts.{rules}
+use Rattle.wf_model.specs.Accepted.{IsAccepted}
+use Rattle.wf_model.proofs.Few.{few_units, few_acts}
 use Rattle.wf_semantics.specs.Items.{Item}
 use Rattle.wf_activities.specs.Stock.{Stock, AreOf, items_at, steps_at, with_sort, with_sorts, wanted_of}
 use Rattle.wf_activities.proofs.Rows.{get_replicate}
 
-few_of : (chart : Chart) → is_small chart ≡ Rattle.std.proofs.Common.true → (length chart.units ≤ max_units) × (length chart.acts ≤ max_acts)
-unfolding is_small
-few_of chart small = (leb-true (length chart.units) max_units (grind arith), leb-true (length chart.acts) max_acts (grind arith))
-
 -- an accepted chart has few units and activities
 pub few : (chart : Chart) → IsAccepted chart → (length chart.units ≤ max_units) × (length chart.acts ≤ max_acts)
-few chart ok = few_of chart (rules chart ok).small
+few chart ok = (few_units chart ok, few_acts chart ok)
 
 sorts_append : (chart : Chart) (xs ys : List VarId) → with_sorts chart (xs ++ ys) ≡ with_sorts chart xs ++ with_sorts chart ys
 sorts_append chart [] ys = refl

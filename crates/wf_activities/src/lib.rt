@@ -28,3 +28,5 @@ pub use laws::{
     closed_stays_closed, closes_one, completes_by_admission, counts_open_items, grows_by_step,
     keeps_numbers,
 };
+pub use outputs::has_sort;
+pub use starts::is_listed;

@@ -6,7 +6,8 @@ ghost use Rattle.wf_activities.specs.Completing.{is_wanted, are_wanted};
 
 use wf_model::{Output, Sort, Val, VarId};
 
-fn has_sort(val: &Val, sort: Sort) -> bool
+/// Whether a value has this sort.
+pub fn has_sort(val: &Val, sort: Sort) -> bool
     ensures { result ≡ alike sort (val_sort val.now) }
 {
     match val {

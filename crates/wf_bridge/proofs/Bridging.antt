@@ -224,7 +224,7 @@ module _ (chart : Chart) (m : CountingMachine) (h : ℕ → History) (u : ℕ) (
   states_same =
       let own : List ℕ = filter (is_state_of chart u) (all_states chart) in
       let inside : ℕ → Bool = λ z. is_inside (shown (part_of chart u) central next_entries) z in
-      ap (map Rattle.wf_machine.specs.Sights.state_id)
+      ap (map Rattle.wf_model.specs.Ids.state_id)
       (filter_agree (λ z. is_state_of chart u z && is_in z central.configuration) (λ z. is_in z central.configuration && is_state_of chart u z) (all_states chart) (λ z mem. swap (is_state_of chart u z) (is_in z central.configuration))
       ∙ sym (filter_filter (λ z. is_in z central.configuration) (is_state_of chart u) (all_states chart))
       ∙ filter_agree (λ z. is_in z central.configuration) inside own (λ z mem.

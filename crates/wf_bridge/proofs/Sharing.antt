@@ -199,7 +199,7 @@ module _ (chart : Chart) (ok : IsAccepted chart) where
         λ i. record {
           from = record { 0 = u };
           step = k;
-          flips = map Rattle.wf_machine.specs.Sights.state_id (moved i);
+          flips = map Rattle.wf_model.specs.Ids.state_id (moved i);
           writes = writes i;
           raised = Rattle.wf_semantics.specs.Effects.raised_by chart (snapshot_of chart c es).seen (fired_of_unit chart c es u);
           starts = Rattle.wf_semantics.specs.Effects.starts_of chart (fired_of_unit chart c es u);

@@ -7,7 +7,7 @@ use Rattle.wf_model.specs.declared.chart.Chart.{Chart}
 use Rattle.wf_model.specs.Tree.{scope, all_states}
 use Rattle.wf_model.specs.Ids.{trans_id}
 use Rattle.wf_model.proofs.Rows.{row_agree, row_set, put}
-use Rattle.wf_central.specs.Kept.{bit}
+use Rattle.wf_model.specs.Bits.{bit}
 use Rattle.wf_scopes.proofs.DefaultIn.{flip}
 use Rattle.wf_central.specs.Passes.{chosen_by}
 

@@ -5,7 +5,7 @@ pub mod Writing
 pub mod Sorts
 pub mod Sights
 pub mod Finding
-pub mod Few
+pub mod Starts
 pub mod Same
 pub mod Marking
 pub mod Orders

@@ -1,5 +1,6 @@
 -- Events that are marked one by one.
 use Rattle.std.proofs.Common.{◌≡◌, ℕ, zero, suc, ◌+◌, ◌<◌, ◌==◌, ◌||◌, cond, Bool, true, false, List, [], ◌∷◌, length, map, take, get_or, set, inl, inr, refl, sym, ◌∙◌, ap, arith, eqb-true}
+use Rattle.std.specs.Prelude.{replicate}
 use Rattle.std.specs.List.{list_any, range_with_len}
 use Rattle.std.proofs.lemmas.List.{set_past}
 use Rattle.wf_model.specs.declared.ids.EventId.{EventId}
@@ -24,6 +25,14 @@ or_true false = refl
 or_assoc : (a b c : Bool) → (a || (b || c)) ≡ ((a || b) || c)
 or_assoc true b c = refl
 or_assoc false b c = refl
+
+-- before the first mark
+none_from : (a n : ℕ) → replicate n false ≡ map (λ e. false) (range_with_len a n)
+none_from a zero = refl
+none_from a (suc n) = ap (λ (l : List Bool). false ∷ l) (none_from (a + 1) n)
+
+pub none_marked : (n : ℕ) → replicate n false ≡ map (was_raised []) (range_with_len 0 n)
+none_marked n = none_from 0 n
 
 -- one more
 any_suc : {A : Type 0} (p : A → Bool) (xs : List A) (i : ℕ) (d : A) → i < length xs → list_any p (take (suc i) xs) ≡ (list_any p (take i xs) || p (get_or xs i d))

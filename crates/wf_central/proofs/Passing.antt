@@ -16,8 +16,8 @@ use Rattle.wf_semantics.proofs.Facts.{IsChart, chart_of}
 use Rattle.wf_semantics.proofs.Places.{above_low}
 use Rattle.wf_semantics.proofs.Scopes.{scope_facts}
 use Rattle.wf_semantics.proofs.Steps.{transition_mem}
-use Rattle.wf_model.proofs.Rows.{row_get, row_len}
-use Rattle.wf_central.specs.Kept.{bit}
+use Rattle.wf_model.proofs.Rows.{row_at, row_get, row_len}
+use Rattle.wf_model.specs.Bits.{bit}
 use Rattle.wf_central.specs.Made.{AreBits}
 use Rattle.wf_central.specs.Passes.{at, chosen_by, firing_by, is_number, fired_by, or_else, first_ids, bit_by, moved_by}
 use Rattle.wf_central.proofs.Firing.{firing_at, first_by, or_other, is_this, bit_after, fired_list, bit_moves}
@@ -27,7 +27,7 @@ ids o = option_map trans_id o
 
 -- what a row has at a place, and past its end
 pub row_bit : (f : ℕ → Bool) (n z : ℕ) (bits : List Bool) → bits ≡ map f (range_with_len 0 n) → z < n → bit bits z ≡ f z
-row_bit f n z bits e lt = ap (λ (o : Option Bool). unwrap_or o false) (row_get f n z bits e lt)
+row_bit f n z bits e lt = row_at f n z false bits e lt
 
 row_entry : (f : ℕ → Option TransId) (n z : ℕ) (table : List (Option TransId)) → table ≡ map f (range_with_len 0 n) → z < n → at table z ≡ f z
 row_entry f n z table e lt = ap (λ (o : Option (Option TransId)). unwrap_or o None) (row_get f n z table e lt)

@@ -20,12 +20,13 @@ use Rattle.wf_semantics.proofs.Configured.{tree_of_same_bits, bits_configuration
 use Rattle.wf_semantics.proofs.Runs.{first_configuration, next_configuration}
 use Rattle.wf_scopes.specs.Tables.{tables_of}
 use Rattle.wf_activities.specs.Stock.{Stock, AreOf, AreStarted, items_at}
-use Rattle.wf_central.specs.Kept.{Kept, bit, central_of, IsOf}
+use Rattle.wf_model.specs.Bits.{bit}
+use Rattle.wf_central.specs.Kept.{Kept, central_of, IsOf}
 use Rattle.wf_central.specs.Made.{IsSeen}
 use Rattle.wf_central.specs.declared.snapshot.StepSnapshot.{StepSnapshot}
 use Rattle.wf_central.proofs.Passing.{row_bit}
 use Rattle.wf_central.proofs.Sorts.{first_sorts}
-use Rattle.wf_central.proofs.Few.{few_starts, closed_length, new_few}
+use Rattle.wf_central.proofs.Starts.{few_starts, closed_length, new_few}
 
 -- of the state that is kept the admission rule reads the items
 pub admits : (chart other : Chart) (stock : Stock) (kept : Kept) (pending : List Entry) (u : ℕ) (outer : Outer) → other ≡ chart → stock ≡ kept.items

@@ -1,4 +1,5 @@
 -- What the kept lists show is what the step sees.
+use Rattle.std.proofs.lemmas.List.{get_or_past}
 use Rattle.std.proofs.Common.{◌≡◌, ℕ, zero, suc, ◌<◌, ◌≤◌, ◌&&◌, Bool, false, List, [], ◌∷◌, length, map, Option, Some, None, unwrap_or, slice_get, inl, inr, refl, sym, ◌∙◌, ap, arith}
 use Rattle.std.specs.List.{range_with_len}
 use Rattle.std.specs.Prelude.{slice_index, nat_lt, IfSome}
@@ -29,7 +30,7 @@ use Rattle.wf_semantics.proofs.Facts.{IsChart}
 use Rattle.wf_model.proofs.Rows.{row_at, row_len}
 use Rattle.wf_effects.specs.Numbers.{numbers}
 use Rattle.wf_effects.proofs.Expressions.{can_read, guard_of}
-use Rattle.wf_central.specs.Kept.{bit}
+use Rattle.wf_model.specs.Bits.{bit}
 use Rattle.wf_central.specs.Sight.{CanBeRead, seen_by, seeing}
 use Rattle.wf_central.specs.Made.{IsSeen, seen_of}
 use Rattle.wf_central.specs.declared.snapshot.StepSnapshot.{StepSnapshot}
@@ -49,19 +50,14 @@ shows chart active store counts dones sorts = record {
 bits_all : (f : ℕ → Bool) (n z : ℕ) (bits : List Bool) → bits ≡ map f (range_with_len 0 n) → (n ≤ z → f z ≡ false) → bit bits z ≡ f z
 bits_all f n z bits e past = elim (lt_or_ge z n) [
   | inl lt ↦ row_bit f n z bits e lt
-  | inr ge ↦ ap (λ (o : Option Bool). unwrap_or o false) (past_end bits z (omega (arith, row_len f n bits e))) ∙ sym (past ge)
+  | inr ge ↦ get_or_past bits z false (omega (arith, row_len f n bits e)) ∙ sym (past ge)
 ]
 
 numbers_all : (f : ℕ → ℕ) (n z : ℕ) (ns : List ℕ) → ns ≡ map f (range_with_len 0 n) → (n ≤ z → f z ≡ 0) → slice_index ns z ≡ f z
 numbers_all f n z ns e past = elim (lt_or_ge z n) [
   | inl lt ↦ row_at f n z 0 ns e lt
-  | inr ge ↦ index_past ns z (omega (arith, row_len f n ns e)) ∙ sym (past ge)
+  | inr ge ↦ get_or_past ns z 0 (omega (arith, row_len f n ns e)) ∙ sym (past ge)
 ]
-  where
-    index_past : (xs : List ℕ) (i : ℕ) → length xs ≤ i → slice_index xs i ≡ 0
-    index_past [] i h = refl
-    index_past (x ∷ xs) zero h = absurd (omega arith)
-    index_past (x ∷ xs) (suc i) h = index_past xs i (omega arith)
 
 -- nothing is in, open or done past the end
 act_past : (chart : Chart) (c : CentralState) (entries : List Entry) (a : ℕ) → length chart.acts ≤ a → (open_now chart c.items entries a ≡ 0) × (done_now chart entries a ≡ false)

@@ -1,5 +1,5 @@
 -- What a central state keeps, and which state of a chart it is.
-use Rattle.std.specs.Prelude.{◌≡◌, ◌+◌, ◌*◌, ◌≤◌, ℕ, Bool, false, List, length, map, unwrap_or, slice_get}
+use Rattle.std.specs.Prelude.{◌≡◌, ◌+◌, ◌*◌, ◌≤◌, ℕ, Bool, false, List, length, map, slice_index_or}
 use Rattle.wf_model.specs.Limits.{max_transitions, max_actions}
 use Rattle.wf_model.specs.declared.ids.EventId.{EventId}
 use Rattle.wf_model.specs.declared.value.Val.{Val}
@@ -25,14 +25,10 @@ pub record Kept : Type 0 where
   pub taken : ℕ
   pub tables : Tables
 
--- whether the list has `true` at this place
-abbrev pub bit : List Bool → ℕ → Bool
-bit bits z = unwrap_or (slice_get bits z) false
-
 -- the state that is kept so
 unfoldable pub central_of : Chart → Kept → CentralState
 central_of chart kept =
-    record { configuration = tree_of_bits chart (bit kept.active); store = kept.store; raised = kept.raised; items = items_at kept.items; taken = kept.taken }
+    record { configuration = tree_of_bits chart (λ z. slice_index_or kept.active z false); store = kept.store; raised = kept.raised; items = items_at kept.items; taken = kept.taken }
 
 -- what is kept is a state of this chart: the states that are in make a configuration, each variable has a value of its
 -- sort, each step started no more items than a step can, and the tables are the chart's

@@ -9,7 +9,7 @@ use Rattle.wf_model.specs.Ids.{trans_id}
 use Rattle.wf_semantics.specs.Configuration.{is_in}
 use Rattle.wf_semantics.specs.Entry.{entry_tree}
 use Rattle.wf_scopes.specs.Tables.{ancestor_ids}
-use Rattle.wf_central.specs.Kept.{bit}
+use Rattle.wf_model.specs.Bits.{bit}
 
 -- the transition, if any, that stands for state s
 abbrev pub at : List (Option TransId) → ℕ → Option TransId

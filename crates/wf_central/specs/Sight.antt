@@ -7,7 +7,7 @@ use Rattle.wf_model.specs.declared.expr.Expr.{Expr}
 use Rattle.wf_model.specs.Seen.{Seen, HasAll, var_sorts}
 use Rattle.wf_model.specs.Sorts.{sort_of}
 use Rattle.wf_semantics.specs.Snapshot.{Snapshot}
-use Rattle.wf_central.specs.Kept.{bit}
+use Rattle.wf_model.specs.Bits.{bit}
 
 -- what expressions read of the states that are in, the values of the variables, and the activities' open items and
 -- completions

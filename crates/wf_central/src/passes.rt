@@ -1,4 +1,4 @@
-//! The passes of a step: which events are there, which transitions are ready, which are chosen, which fire, which states
+//! The passes of a step: which events are there, which transitions are enabled, which are chosen, which fire, which states
 //! are in then, and what the fired transitions do besides.
 ghost use Rattle.std.specs.Prelude.{◌≡◌, ◌<◌, ◌||◌, ℕ, Bool, true, false, List as Listed, None, All, map, filter, length, is_some, slice_set, IfOk, IfSome};
 ghost use Rattle.std.specs.List.{list_any, range_with_len};
@@ -10,7 +10,7 @@ ghost use Rattle.wf_semantics.specs.Run.{CentralState, is_happening, is_there};
 ghost use Rattle.wf_semantics.specs.Shown.{HasSorts};
 ghost use Rattle.wf_semantics.specs.Snapshot.{has_event, has_guard, is_ready, is_enabled};
 ghost use Rattle.wf_scopes.specs.Tables.{tables_of, ancestor_ids};
-ghost use Rattle.wf_central.specs.Kept.{bit};
+ghost use Rattle.wf_model.specs.Bits.{bit};
 ghost use Rattle.wf_central.specs.Passes.{at, chosen_by, firing_by, fired_by, first_ids, bit_by, moved_by};
 ghost use Rattle.wf_central.specs.Sight.{CanBeRead, was_raised, seeing};
 ghost use Rattle.wf_central.specs.Made.{seen_of, AreBits, MakesWalk, IsSeen, MakesStep};
@@ -20,72 +20,54 @@ use std::alloc::Global;
 use wf_effects::effects;
 use wf_expr::value;
 use wf_model::{
-    Chart, Entry, EventId, Expr, List, NoMemory, Outer, StartAt, StateId, TransId, Transition, Val,
+    Bits, Chart, Entry, EventId, Expr, List, NoMemory, Outer, StartAt, StateId, TransId,
+    Transition, Val,
 };
 use wf_scopes::Scopes;
 
-// No event, for each event of the chart.
-fn none_there(alloc: Global, chart: &Chart) -> Result<List<bool>, NoMemory>
-    ensures { IfOk result (λ bits. bits ≡ map (λ e. false) (all_events chart.now)) }
-{
-    let mut bits = List::new(alloc);
-    for _event in chart.events.as_slice() {
-        bits.push(false)?;
-    }
-    Ok(bits)
-}
-
-fn mark(bits: &mut List<bool>, at: usize)
-    ensures { bits.new ≡ slice_set bits.old at true }
-{
-    if at < bits.len() {
-        bits.set(at, true);
-    }
-}
-
 // For each event of the chart, whether it was raised.
-fn marked(alloc: Global, chart: &Chart, raised: &[EventId]) -> Result<List<bool>, NoMemory>
+fn raised_bits(alloc: Global, chart: &Chart, raised: &[EventId]) -> Result<Bits, NoMemory>
     ensures { IfOk result (λ bits. bits ≡ map (was_raised raised.now) (all_events chart.now)) }
 {
-    let mut bits = none_there(alloc, chart)?;
+    let mut bits = Bits::none(alloc, chart.events.len())?;
     for event in raised {
-        mark(&mut bits, event.0 as usize);
+        bits.set(event.0 as usize);
     }
     Ok(bits)
 }
 
 // Marks the event that happens, if this is one.
-fn mark_happening(bits: &mut List<bool>, outer: &Outer)
+fn mark_happening(bits: &mut Bits, outer: &Outer)
     ensures { (f : ℕ → Bool) (n : ℕ) → bits.old ≡ map f (range_with_len 0 n) → bits.new ≡ map (λ e. f e || is_happening e outer.now) (range_with_len 0 n) }
 {
     match outer {
-        Outer::Happen(event) => mark(bits, event.0 as usize),
+        Outer::Happen(event) => bits.set(event.0 as usize),
         Outer::Complete { .. } => {}
     }
 }
 
 /// For each event of the chart, whether it is there: raised in the last step, or happening in these entries. Grows with
 /// the events and the entries.
-pub fn there(
+pub fn events_there(
     alloc: Global,
     chart: &Chart,
     raised: &[EventId],
     entries: &[Entry],
-) -> Result<List<bool>, NoMemory>
+) -> Result<Bits, NoMemory>
     ensures { IfOk result (λ bits. bits ≡ map (is_there raised.now entries.now) (all_events chart.now)) }
 {
-    let mut bits = marked(alloc, chart, raised)?;
+    let mut bits = raised_bits(alloc, chart, raised)?;
     for entry in entries {
         mark_happening(&mut bits, &entry.outer);
     }
     Ok(bits)
 }
 
-fn has_event(there: &[bool], event: Option<EventId>) -> bool
+fn has_event(there: &Bits, event: Option<EventId>) -> bool
     ensures { result ≡ has_event (bit there.now) event }
 {
     match event {
-        Some(e) => is_set(there, e.0 as usize),
+        Some(e) => there.has(e.0 as usize),
         None => true,
     }
 }
@@ -100,7 +82,7 @@ fn has_guard(snap: &StepSnapshot, guard: &Option<Expr>) -> bool
     }
 }
 
-fn is_ready(snap: &StepSnapshot, there: &[bool], transition: &Transition) -> bool
+fn is_ready(snap: &StepSnapshot, there: &Bits, transition: &Transition) -> bool
     requires { IfSome transition.now.guard (CanBeRead (seen_of snap.now)) }
     ensures { result ≡ is_ready (seeing (seen_of snap.now) (bit there.now)) transition.now }
 {
@@ -111,11 +93,11 @@ fn is_ready(snap: &StepSnapshot, there: &[bool], transition: &Transition) -> boo
 
 /// For each transition, whether it is enabled: its source is in, its event there and its guard true. A guard is looked at
 /// only where the other two hold.
-pub fn ready(
+pub fn enabled_bits(
     alloc: Global,
     chart: &Chart,
     snap: &StepSnapshot,
-    there: &[bool],
+    there: &Bits,
 ) -> Result<List<bool>, NoMemory>
     requires accepted { IsAccepted chart.now }
     requires sorts { HasSorts chart.now snap.now.store.now }
@@ -139,8 +121,8 @@ fn none_chosen(alloc: Global, chart: &Chart) -> Result<List<Option<TransId>>, No
     Ok(table)
 }
 
-/// For each state, the first ready transition whose scope it is.
-pub fn chosen(
+/// For each state, the first enabled transition whose scope it is.
+pub fn choice_table(
     alloc: Global,
     chart: &Chart,
     scopes: &Scopes,
@@ -195,7 +177,7 @@ fn firing_at(
 }
 
 /// For each state, what fires there: what is chosen, where nothing is chosen above.
-pub fn firing(
+pub fn firing_table(
     alloc: Global,
     chart: &Chart,
     scopes: &Scopes,
@@ -224,7 +206,7 @@ fn is_fired(chart: &Chart, scopes: &Scopes, firing: &[Option<TransId>], t: Trans
 }
 
 /// The transitions that fire, ascending.
-pub fn fired(
+pub fn fired_transitions(
     alloc: Global,
     chart: &Chart,
     scopes: &Scopes,
@@ -275,7 +257,7 @@ fn is_in_then(
 }
 
 /// For each state, whether it is in after the transitions fired.
-pub fn moved(
+pub fn active_after(
     alloc: Global,
     chart: &Chart,
     scopes: &Scopes,
@@ -301,7 +283,7 @@ pub struct AfterWalk {
     pub active: List<bool>,
 }
 
-/// The passes from the ready transitions on: which of them fire, and which states are in then.
+/// The passes from the enabled transitions on: which of them fire, and which states are in then.
 pub fn walk(
     alloc: Global,
     chart: &Chart,
@@ -314,10 +296,10 @@ pub fn walk(
     ensures walk { (c : Tree) (enabled : ℕ → Bool) → AreBits chart.now c enabled active.now ready.now → IfOk result (MakesWalk chart.now c enabled) }
     ensures known { IfOk result (λ after. All (λ t. t.0 < length chart.now.transitions) after.fired) }
 {
-    let chosen = chosen(alloc, chart, scopes, ready)?;
-    let firing = firing(alloc, chart, scopes, chosen.as_slice())?;
-    let fired = fired(alloc, chart, scopes, firing.as_slice())?;
-    let active = moved(alloc, chart, scopes, active, firing.as_slice())?;
+    let chosen = choice_table(alloc, chart, scopes, ready)?;
+    let firing = firing_table(alloc, chart, scopes, chosen.as_slice())?;
+    let fired = fired_transitions(alloc, chart, scopes, firing.as_slice())?;
+    let active = active_after(alloc, chart, scopes, active, firing.as_slice())?;
     Ok(AfterWalk { fired, active })
 }
 
@@ -338,7 +320,7 @@ pub fn pass_all(
     chart: &Chart,
     scopes: &Scopes,
     snap: &StepSnapshot,
-    there: &[bool],
+    there: &Bits,
 ) -> Result<AfterStep, NoMemory>
     requires of { scopes.now ≡ tables_of chart.now }
     requires accepted { IsAccepted chart.now }
@@ -346,7 +328,7 @@ pub fn pass_all(
     ensures step { (c : CentralState) (entries : Listed Entry) → IsSeen chart.now c entries snap.now there.now → IfOk result (MakesStep chart.now c entries) }
     ensures sorts { IfOk result (λ after. HasSorts chart.now after.store) }
 {
-    let ready = ready(alloc, chart, snap, there)?;
+    let ready = enabled_bits(alloc, chart, snap, there)?;
     let after = walk(alloc, chart, scopes, snap.active, ready.as_slice())?;
     let effects = effects(alloc, chart, snap, snap.store, after.fired.as_slice())?;
     Ok(AfterStep {

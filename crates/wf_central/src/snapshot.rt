@@ -1,6 +1,6 @@
 //! What the expressions of a step read.
 ghost use Rattle.std.specs.Prelude.{◌≡◌, slice_index};
-ghost use Rattle.wf_central.specs.Kept.{bit};
+ghost use Rattle.wf_model.specs.Bits.{bit};
 
 use wf_expr::Snapshot;
 use wf_model::{ActId, StateId, Val, VarId};

@@ -163,7 +163,7 @@ impl CentralState {
         ensures err { OnErr result (self.new ≡ self.old) }
     {
         let chart = checked.chart();
-        let after = self.passed(alloc, chart, outer)?;
+        let after = self.after_step(alloc, chart, outer)?;
         let starts = self.items.take_step(
             alloc,
             chart,
@@ -182,14 +182,19 @@ impl CentralState {
     }
 
     // What the step makes in which these entries come, but for the items.
-    fn passed(&self, alloc: Global, chart: &Chart, outer: &[Entry]) -> Result<AfterStep, NoMemory>
+    fn after_step(
+        &self,
+        alloc: Global,
+        chart: &Chart,
+        outer: &[Entry],
+    ) -> Result<AfterStep, NoMemory>
         requires accepted { IsAccepted chart.now }
         requires of { IsOf chart.now self.now }
         requires come { IsTrue (may_come chart.now (central_of chart.now self.now).items outer.now) }
         ensures step { IfOk result (MakesStep chart.now (central_of chart.now self.now) outer.now) }
         ensures sorts { IfOk result (λ after. HasSorts chart.now after.store) }
     {
-        let there = passes::there(alloc, chart, self.raised.as_slice(), outer)?;
+        let there = passes::events_there(alloc, chart, self.raised.as_slice(), outer)?;
         let store = outputs::store_then(alloc, self.store.as_slice(), outer)?;
         let counts = self.items.open_then(alloc, chart, outer)?;
         let dones = done_in(alloc, chart, outer)?;
@@ -199,6 +204,6 @@ impl CentralState {
             counts: counts.as_slice(),
             dones: dones.as_slice(),
         };
-        passes::pass_all(alloc, chart, &self.scopes, &snap, there.as_slice())
+        passes::pass_all(alloc, chart, &self.scopes, &snap, &there)
     }
 }

@@ -5,7 +5,8 @@ use Rattle.std.proofs.lemmas.Bool.{le-ltb, ltb-false}
 use Rattle.std.proofs.lemmas.List.{length-append, length-drop, take-append-le, drop-append-le}
 use Rattle.wf_codec.specs.declared.fault.Misfit.{Misfit}
 use Rattle.wf_codec.specs.declared.fault.Misfit.TheVariants.{Short, Bad}
-use Rattle.wf_codec.specs.Reading.{◌>>=◌, is_within, byte_that, byte_in, number_in, eight_at, items_at}
+use Rattle.wf_model.specs.Steps.{◌>>=◌}
+use Rattle.wf_codec.specs.Reading.{is_within, byte_that, byte_in, number_in, eight_at, items_at}
 
 -- a reader of a field: a value and the bytes behind it
 abbrev pub Reader : Type 0 → Type 0

@@ -5,7 +5,8 @@ use Rattle.std.proofs.lemmas.List.Concat.{flat_map-cons}
 use Rattle.wf_codec.specs.declared.fault.Misfit.{Misfit}
 use Rattle.wf_codec.specs.Spelling.{listed}
 use Rattle.wf_codec.specs.Ranges.{InOrder}
-use Rattle.wf_codec.specs.Reading.{◌>>=◌, items_at}
+use Rattle.wf_model.specs.Steps.{◌>>=◌}
+use Rattle.wf_codec.specs.Reading.{items_at}
 use Rattle.wf_codec.specs.Fields.{list_at}
 use Rattle.wf_codec.proofs.Readers.{IsBytes, bind_ok, ok_is, Takes, Takes-then, Reads, Reads-then, Reads-as}
 use Rattle.wf_codec.proofs.Numbers.{Reads-two}

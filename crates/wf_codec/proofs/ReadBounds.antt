@@ -14,7 +14,8 @@ use Rattle.wf_codec.specs.declared.fault.Misfit.{Misfit}
 use Rattle.wf_codec.specs.declared.fault.Misfit.TheVariants.{Short, Bad}
 use Rattle.wf_codec.specs.declared.field.Numbers.{Numbers}
 use Rattle.wf_codec.specs.Tags.{bool_sort, int_sort}
-use Rattle.wf_codec.specs.Reading.{◌>>=◌, byte_that, byte_in, number_in, eight_at, ranged, is_within, items_at}
+use Rattle.wf_model.specs.Steps.{◌>>=◌}
+use Rattle.wf_codec.specs.Reading.{byte_that, byte_in, number_in, eight_at, ranged, is_within, items_at}
 use Rattle.wf_codec.specs.Fields.{bool_at, int_at, text_at, value_at, state_at, event_at, trans_at, write_at, start_at, output_at, happening_at, completion_at, outer_at, list_at, update_at}
 use Rattle.wf_codec.proofs.ReadLoop.{Reads}
 

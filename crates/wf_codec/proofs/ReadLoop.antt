@@ -6,7 +6,8 @@ use Rattle.std.proofs.lemmas.List.{append-nil, get_or_push}
 use Rattle.wf_codec.specs.declared.fault.Misfit.{Misfit}
 use Rattle.wf_codec.specs.declared.fault.FieldFault.{FieldFault}
 use Rattle.wf_codec.specs.declared.fault.FieldFault.TheVariants as fault
-use Rattle.wf_codec.specs.Reading.{◌>>=◌, Fails, items_at}
+use Rattle.wf_model.specs.Steps.{◌>>=◌}
+use Rattle.wf_codec.specs.Reading.{Fails, items_at}
 
 -- what reads an item behind the one before it
 abbrev pub Reads : Type 0 → Type 0

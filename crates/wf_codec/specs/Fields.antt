@@ -21,7 +21,8 @@ use Rattle.wf_codec.specs.declared.fault.CodecFault.TheVariants as codec
 use Rattle.wf_codec.specs.declared.field.Numbers.{Numbers}
 use Rattle.wf_codec.specs.Tags.{bool_sort, int_sort, text_sort, happen_kind, complete_kind, update_tag}
 use Rattle.wf_codec.specs.Ranges.{chart_numbers}
-use Rattle.wf_codec.specs.Reading.{◌>>=◌, byte_in, number_in, eight_at, items_at, bytes_that, least_after}
+use Rattle.wf_model.specs.Steps.{◌>>=◌}
+use Rattle.wf_codec.specs.Reading.{byte_in, number_in, eight_at, items_at, bytes_that, least_after}
 
 -- a truth behind its sort
 unfoldable pub bool_at : List ℕ → Result (Val × List ℕ) Misfit

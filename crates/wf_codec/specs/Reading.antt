@@ -3,15 +3,11 @@
 use Rattle.std.specs.Prelude.{ℕ, zero, suc, ◌≡◌, List, [], ◌∷◌, length, take, drop, Option, Some, None, Result, Ok, Err, Bool, ◌&&◌, nat_le, nat_lt, if◌then◌else◌}
 use Rattle.std.specs.Borrow.{Bor}
 use Rattle.std.specs.Int.{Width, w64, byte_len, from_be_bytes}
+use Rattle.wf_model.specs.Steps.{◌>>=◌}
 use Rattle.wf_codec.specs.declared.fault.Misfit.{Misfit}
 use Rattle.wf_codec.specs.declared.fault.Misfit.TheVariants.{Short, Bad}
 use Rattle.wf_codec.specs.declared.fault.FieldFault.{FieldFault}
 use Rattle.wf_codec.specs.declared.fault.FieldFault.TheVariants as fault
-
-infixl 10 ◌>>=◌
-abbrev pub ◌>>=◌ : {A B : Type 0} → Result A Misfit → (A → Result B Misfit) → Result B Misfit
-(Ok x) >>= f = f x
-(Err e) >>= f = Err e
 
 -- a function failed as reading does, unless memory ran out
 abbrev pub Fails : {Y : Type 0} → FieldFault → Result Y Misfit → Type 0
@@ -19,13 +15,13 @@ Fails fault.NoMemory read = Unit {0}
 Fails (fault.Misfit misfit) read = read ≡ Err misfit
 
 -- what a function answered, seen so, is what reading gives, unless memory ran out
-abbrev pub Gives : {X Y : Type 0} → (X → Y) → Result X FieldFault → Result Y Misfit → Type 0
-Gives view (Ok x) read = read ≡ Ok (view x)
-Gives view (Err e) read = Fails e read
+abbrev pub ReadsAs : {X Y : Type 0} → (X → Y) → Result X FieldFault → Result Y Misfit → Type 0
+ReadsAs view (Ok x) read = read ≡ Ok (view x)
+ReadsAs view (Err e) read = Fails e read
 
 -- the same of a value and the bytes behind it
 abbrev pub Reads : {X : Type 0} → Result (X × Bor (List ℕ)) FieldFault → Result (X × List ℕ) Misfit → Type 0
-Reads result reading = Gives (λ x. (x.0, x.1.now)) result reading
+Reads result reading = ReadsAs (λ x. (x.0, x.1.now)) result reading
 
 -- a number is in its range, from the least on and below the limit
 abbrev pub is_within : ℕ → ℕ → ℕ → Bool

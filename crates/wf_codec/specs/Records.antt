@@ -11,7 +11,8 @@ use Rattle.wf_codec.specs.declared.record.JournalRecord.TheVariants.{Head, Admit
 use Rattle.wf_codec.specs.Tags.{head_tag, admit_tag, turn_tag}
 use Rattle.wf_codec.specs.Spelling.{two, four, eight, outer_spelling, spelling_of}
 use Rattle.wf_codec.specs.Ranges.{chart_numbers, any_numbers, Ascend, IsOuter, IsHeldOuter, IsInRange, IsHeld}
-use Rattle.wf_codec.specs.Reading.{◌>>=◌, byte_in, number_in, eight_at, items_at, bytes_that}
+use Rattle.wf_model.specs.Steps.{◌>>=◌}
+use Rattle.wf_codec.specs.Reading.{byte_in, number_in, eight_at, items_at, bytes_that}
 use Rattle.wf_codec.specs.Fields.{outer_at, update_at}
 
 -- a letter, a digit, `_` or `-`

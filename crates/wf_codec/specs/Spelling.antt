@@ -1,4 +1,4 @@
--- Of other calls. The one spelling of an update. Numbers are big-endian.
+-- The one spelling of an update. Numbers are big-endian.
 use Rattle.std.specs.Prelude.{ℕ, List, [], ◌∷◌, ◌++◌, length, Bool, true, false}
 use Rattle.std.specs.List.{flat_map}
 use Rattle.std.specs.Int.{w16, w32, w64, to_be_bytes, cast_unsigned}

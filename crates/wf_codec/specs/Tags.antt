@@ -1,4 +1,4 @@
--- Of other calls. The bytes by which spellings begin, and how long one may be, as numbers.
+-- The bytes by which spellings begin, and how long one may be, as numbers.
 -- `bytes_are_numbers` ties the program's constants to them.
 use Rattle.std.specs.Prelude.{ℕ}
 

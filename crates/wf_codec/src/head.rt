@@ -1,6 +1,6 @@
 //! The names of a head.
 ghost use Rattle.std.specs.Prelude.{◌≡◌};
-ghost use Rattle.wf_codec.specs.Reading.{Gives, Reads, byte_that, bytes_that};
+ghost use Rattle.wf_codec.specs.Reading.{ReadsAs, Reads, byte_that, bytes_that};
 ghost use Rattle.wf_codec.specs.Records.{head_name_at};
 ghost use Rattle.wf_codec.specs.Records as spec;
 
@@ -23,7 +23,7 @@ pub fn head_name_of(alloc: Global, bytes: &[u8]) -> Result<(Name, &[u8]), FieldF
 
 /// So many characters of a name, lent. Linear in them.
 fn head_chars_of(count: u8, bytes: &[u8]) -> Result<(&[u8], &[u8]), FieldFault>
-    ensures { Gives (λ x. (x.0.now, x.1.now)) result (bytes_that spec.is_head_char count bytes.now) }
+    ensures { ReadsAs (λ x. (x.0.now, x.1.now)) result (bytes_that spec.is_head_char count bytes.now) }
 {
     let mut rest = bytes;
     for _ in 0..count {

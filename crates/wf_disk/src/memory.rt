@@ -102,6 +102,27 @@ impl MemDisk {
         self.stop.is_some() || self.clock == u64::MAX
     }
 
+    /// How often it has failed.
+    pub fn faults(&self) -> u64
+        ensures { result ≡ self.now.faults }
+    {
+        self.faults
+    }
+
+    /// The number by which it tells this moment: how many strokes its record has.
+    pub fn moment(&self) -> usize
+        ensures { result ≡ length self.now.strokes }
+    {
+        self.history.len()
+    }
+
+    /// Begins the count of faults anew. Nothing else changes.
+    pub fn forget_faults(&mut self)
+        ensures { self.new ≡ record self.old { faults = 0 } }
+    {
+        self.faults = 0;
+    }
+
     /// Leaves the bytes by an outcome, as a crash does, and begins the record anew. The arm stays, and so do a stop and
     /// the room for writes. It takes no memory. In linear time in the disk's bytes, all of which it copies, in the
     /// strokes since the record began and in what they wrote.

@@ -68,6 +68,13 @@ impl Record {
         }
     }
 
+    /// How many strokes it has.
+    pub fn len(&self) -> usize
+        ensures { result ≡ length self.now.strokes }
+    {
+        self.entries.len()
+    }
+
     /// Whether each write is followed by a sync.
     pub fn is_synced(&self) -> bool
         ensures { IsTrue result ↔ (self.now.synced ≡ length self.now.strokes) }

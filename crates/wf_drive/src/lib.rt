@@ -5,7 +5,7 @@
 //!   and the ending are a run of the servers' own relations. A fault comes only if such a run leads
 //!   to it.
 //! - Doesn't say: what these relations are: each kind of servers says that.
-//! - A caller: `wf_play_tests` drives servers that give out numbers.
+//! - A caller: `wf_top` drives the servers of a chart for the command `play`.
 //! - A command that runs a script on servers begins here: it says what its servers' state, lines
 //!   and replies are.
 #![tactic(auto)]

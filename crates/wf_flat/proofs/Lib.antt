@@ -1,5 +1,6 @@
 pub mod Reading
 pub mod Loops
+pub mod Masking
 pub mod Showing
 pub mod Gathering
 pub mod Stepping

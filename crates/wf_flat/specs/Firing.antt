@@ -1,11 +1,13 @@
--- Inner. What can be evaluated, and the tables of truths by number.
-use Rattle.std.specs.Prelude.{ℕ, ◌<◌, ◌^◌, ◌==◌, Bool, false, List, Option, length, find, unwrap_or, All, IsTrue, IfSome}
+-- Inner. What can be evaluated, what fires by rows, and the tables of truths by number.
+use Rattle.std.specs.Prelude.{ℕ, ◌<◌, ◌^◌, ◌==◌, ◌&&◌, not, Bool, false, List, Option, length, find, unwrap_or, All, IsTrue, IfSome}
 use Rattle.std.specs.Option.{option_map_or}
+use Rattle.std.specs.List.{list_any}
 use Rattle.wf_model.specs.declared.expr.Expr.{Expr}
 use Rattle.wf_model.specs.declared.chart.Action.{Action}
 use Rattle.wf_model.specs.declared.chart.Action.TheVariants.{Assign, Raise, Start}
 use Rattle.wf_model.specs.Seen.{Seen, HasAll}
 use Rattle.wf_parts.specs.declared.data.PartTransition.{PartTransition}
+use Rattle.wf_parts.specs.Rows.{names}
 use Rattle.wf_expr.specs.Ints.{has_small_ints}
 use Rattle.wf_updates.specs.Tables.{entry}
 
@@ -31,3 +33,7 @@ holds table k = unwrap_or (entry table k) false
 -- what a test says of the first transition with this number
 abbrev pub says_of : (PartTransition → Bool) → List PartTransition → ℕ → Bool
 says_of test transitions t = option_map_or test (find (λ trans. trans.id.0 == t) transitions) false
+
+-- the transition passes, and none of these that passes blocks it
+abbrev pub is_unblocked : List PartTransition → (PartTransition → Bool) → PartTransition → Bool
+is_unblocked transitions test trans = test trans && not (list_any (λ other. test other && names trans.blockers other.id.0) transitions)

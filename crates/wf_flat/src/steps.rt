@@ -1,6 +1,8 @@
 //! What a unit makes of its view.
 ghost use Rattle.std.specs.Prelude.{◌≡◌, All, IfOk};
 ghost use Rattle.wf_actions.specs.Writes.{merged};
+ghost use Rattle.wf_parts.specs.Parts.{IsPart};
+ghost use Rattle.wf_parts.specs.Rows.{AreRows};
 ghost use Rattle.wf_views.specs.Laws.{IsViewOf};
 ghost use Rattle.wf_views.specs.OwnSteps.{own_update, part_step};
 ghost use Rattle.wf_flat.specs.Firing.{CanFire};
@@ -14,7 +16,7 @@ use crate::sighting::Sighting;
 use std::alloc::Global;
 use wf_actions::merge_writes;
 use wf_model::{List, NoMemory, Outer, Update, Write};
-use wf_parts::{Part, PartData};
+use wf_parts::{Part, PartData, Rows};
 use wf_updates::View;
 
 // The write of each variable that stays.
@@ -30,14 +32,17 @@ fn merged(alloc: Global, writes: &[Write]) -> Result<List<Write>, NoMemory>
 fn step_of(
     alloc: Global,
     part: &PartData,
+    rows: &Rows,
     sight: &Sighting,
     step: u32,
     outers: List<Outer>,
 ) -> Result<Update, NoMemory>
-    requires { All (CanFire (shown_by sight.now).seen) part.now.transitions }
+    requires part { IsPart part.now }
+    requires can { All (CanFire (shown_by sight.now).seen) part.now.transitions }
+    requires rows { AreRows part.now.transitions rows.now }
     ensures { IfOk result (λ update. update ≡ part_step part.now step (shown_by sight.now) outers) }
 {
-    let firing = Firing::of(alloc, sight, part)?;
+    let firing = Firing::of(alloc, sight, part, rows)?;
     let flips = flips(alloc, sight, &firing.by_number, part.components.as_slice())?;
     let gathered = Gathered::of(
         alloc,
@@ -47,15 +52,14 @@ fn step_of(
     )?;
     let writes = merged(alloc, gathered.writes.as_slice())?;
     let raised = ascending(alloc, gathered.raised.as_slice())?;
-    let Gathered { starts, fired, .. } = gathered;
     Ok(Update {
         from: part.unit,
         step,
         flips,
         writes,
         raised,
-        starts,
-        fired,
+        starts: gathered.starts,
+        fired: gathered.fired,
         outer: outers,
     })
 }
@@ -74,7 +78,7 @@ pub fn bounded_step(
 {
     let data = part.data();
     let sight = Sighting::of(alloc, data, view)?;
-    step_of(alloc, data, &sight, step, outers)
+    step_of(alloc, data, part.rows(), &sight, step, outers)
 }
 
 /// The update that a unit makes of its view in this step by its part alone: its states that go in or out, the writes of its transitions
@@ -82,7 +86,7 @@ pub fn bounded_step(
 /// their numbers, and these outers. The view is one of this part; its values may be any, and its states need be no
 /// configuration. It refuses only if memory runs out.
 ///
-/// In linear time in the part with its blockers and in the view, in the nodes of the guards and values that are looked at, and in the
+/// In linear time in the part with the words of its rows and in the view, in the nodes of the guards and values that are looked at, and in the
 /// greatest of the numbers that stand in the part and the view.
 pub fn own_step(
     alloc: Global,

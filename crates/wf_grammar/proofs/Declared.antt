@@ -18,10 +18,10 @@ use Rattle.wf_text.specs.Declarations.{outputs_from, outputs, outputs_if_any, de
 use Rattle.wf_grammar.specs.Lexemes.{Lexeme, lexeme_of}
 use Rattle.wf_grammar.specs.Phrases.{Names, Is, IsNameOf}
 use Rattle.wf_grammar.specs.Scopes as scope
-use Rattle.wf_grammar.specs.Scopes.{Scope}
+use Rattle.wf_grammar.specs.Scopes.{Scope, scope_of}
 use Rattle.wf_grammar.specs.Declaring as phrase
-use Rattle.wf_grammar.specs.Declaring.{word_of_sort, Literal, AtUnit, Vars, Gives, Declares, Declarations}
-use Rattle.wf_grammar.proofs.Rules.{scope_of, DeclarationsReadAreSpelled}
+use Rattle.wf_grammar.specs.Declaring.{word_of_sort, Literal, AtUnit, Vars, Outputs, Declares, Declarations}
+use Rattle.wf_grammar.proofs.Rules.{DeclarationsReadAreSpelled}
 use Rattle.wf_grammar.proofs.Inputs.{here, piece_here, piece_none, next_here, then_assoc}
 use Rattle.wf_grammar.proofs.ReadSteps.{expect_then, variable_then, int_then, text_then}
 use Rattle.wf_grammar.proofs.Places.{within, Meaning, Read, ReadsOnly, ends_read, read_then, eat_then, unit_then, negated_int_then, new_name_then, both_parts, ended, Changes, ends_changed, BehindChange, change_then}
@@ -142,7 +142,7 @@ outputs_read i left at count xs j h =
       end = r.end;
     })
 
-outputs_if_any_reads : (i : Input) → ReadsOnly i (Gives i.names) outputs_if_any
+outputs_if_any_reads : (i : Input) → ReadsOnly i (Outputs i.names) outputs_if_any
 unfolding outputs_if_any
 outputs_if_any_reads i left at count xs j h =
     elim (eat_then i pieces.Gives left at count _ xs j h) [
@@ -157,7 +157,7 @@ outputs_if_any_reads i left at count xs j h =
             taken = phrase.gives_vars (lexeme_of i.text e.token) e.is r.taken;
             end = r.end;
           }))
-      | inr h' ↦ ends_read i (Gives i.names) [] left left at count [] xs j refl phrase.gives_nothing h'
+      | inr h' ↦ ends_read i (Outputs i.names) [] left left at count [] xs j refl phrase.gives_nothing h'
     ]
 
 -- ---- declarations
@@ -222,7 +222,7 @@ activity_reads text s left at count j h =
     let i' = within text between in
     let a = expect_then i' pieces.At n.rest (at + 1 + 1) count _ tt j n.goes_on in
     let u = unit_then i' (Unit {0}) a.rest (at + 1 + 1 + 1) count _ tt j a.goes_on in
-    let g = read_then i' (Gives between.names) outputs_if_any (outputs_if_any_reads i') u.rest (at + 1 + 1 + 1 + 1) count _ tt j u.goes_on in
+    let g = read_then i' (Outputs between.names) outputs_if_any (outputs_if_any_reads i') u.rest (at + 1 + 1 + 1 + 1) count _ tt j u.goes_on in
     let c = expect_then i' pieces.Semicolon g.rest g.at g.count _ tt j g.goes_on in
     rw e.whole (rw n.whole (rw a.whole (rw u.whole (ends_changed text (Declares s) (scope.with_act (record { name = name.bytes; unit = u.value; outputs = g.value }) between)
     (lexeme_of text e.token ∷ name ∷ lexeme_of text a.token ∷ lexeme_of text u.token ∷ (g.words ++ lexeme_of text c.token ∷ []))

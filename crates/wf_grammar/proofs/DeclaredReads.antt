@@ -19,10 +19,10 @@ use Rattle.wf_grammar.specs.Lexemes.{Lexeme, lexeme_of}
 use Rattle.wf_grammar.specs.Phrases.{Names, Is, IsNameOf}
 use Rattle.wf_grammar.specs.Laws.{first_piece}
 use Rattle.wf_grammar.specs.Scopes as scope
-use Rattle.wf_grammar.specs.Scopes.{Scope, IsNewName}
+use Rattle.wf_grammar.specs.Scopes.{Scope, IsNewName, scope_of}
 use Rattle.wf_grammar.specs.Declaring as phrase
-use Rattle.wf_grammar.specs.Declaring.{word_of_sort, Literal, AtUnit, Vars, Gives, Declares, Declarations}
-use Rattle.wf_grammar.proofs.Rules.{scope_of, BeginsNoDeclaration, DeclarationsSpelledAreRead}
+use Rattle.wf_grammar.specs.Declaring.{word_of_sort, Literal, AtUnit, Vars, Outputs, Declares, Declarations}
+use Rattle.wf_grammar.proofs.Rules.{BeginsNoDeclaration, DeclarationsSpelledAreRead}
 use Rattle.wf_grammar.proofs.Inputs.{here}
 use Rattle.wf_grammar.proofs.Places.{within}
 use Rattle.wf_grammar.proofs.Giving.{Gave, then_gives, pure_gave, next_is, begins, other_piece, expect_gives, take_gives, eat_gives, eat_not, variable_gives, unit_gives, int_gives, negated_int_gives, text_gives, new_name_gives, fits}
@@ -135,7 +135,7 @@ outputs_give text s {xs = xs} vars more may left at count is =
     rw f.same_values (then_gives text s s _ _ _ _ _ _ (variable_gives text s left at count f.name (f.words ++ more) is' f.value f.is) (λ rest at count is.
     outputs_from_gives text s f.go_on (length rest) (f.value ∷ []) (fits text f.words more rest is) more may rest at count is))
 
-outputs_if_any_gives : (text : List ℕ) (s : Scope) {ws : List Lexeme} {xs : List VarId} → Gives s.names ws xs → (more : List Lexeme) → NotNext pieces.Gives more → NotNext pieces.Comma more
+outputs_if_any_gives : (text : List ℕ) (s : Scope) {ws : List Lexeme} {xs : List VarId} → Outputs s.names ws xs → (more : List Lexeme) → NotNext pieces.Gives more → NotNext pieces.Comma more
     → (left : List Token) (at count : ℕ) → map (lexeme_of text) left ≡ ws ++ more → Gave text s xs more (outputs_if_any (here (within text s) left at count))
 unfolding outputs_if_any
 outputs_if_any_gives text s phrase.gives_nothing more no_gives no_comma left at count is =
@@ -190,7 +190,7 @@ var_declared text s vs w n colon word equal ends kind first is_var new is_colon 
 
 act_declared : (text : List ℕ) (s : Scope) (gs : List Lexeme) (w n at_word place ends : Lexeme) (u : UnitId) (outputs : List VarId)
     → Is pieces.Activity w → IsNewName s n → Is pieces.At at_word → IsNameOf (scope.act_named n s).names (declared_as_a.Unit u) place
-    → Gives (scope.act_named n s).names gs outputs → Is pieces.Semicolon ends
+    → Outputs (scope.act_named n s).names gs outputs → Is pieces.Semicolon ends
     → (more : List Lexeme) (left : List Token) (at count : ℕ) → map (lexeme_of text) left ≡ w ∷ n ∷ at_word ∷ place ∷ (gs ++ ends ∷ more)
     → Gave text (scope.with_act (record { name = n.bytes; unit = u; outputs = outputs }) (scope.act_named n s)) tt more (reader.activity (here (within text s) left at count))
 unfolding reader.activity input.next_act with_act

@@ -15,10 +15,10 @@ use Rattle.wf_text.specs.States.{kind, kind_by, kind_of, children_from, children
 use Rattle.wf_grammar.specs.Lexemes.{Lexeme, lexeme_of}
 use Rattle.wf_grammar.specs.Phrases.{Is}
 use Rattle.wf_grammar.specs.Scopes as scope
-use Rattle.wf_grammar.specs.Scopes.{Scope}
+use Rattle.wf_grammar.specs.Scopes.{Scope, scope_of}
 use Rattle.wf_grammar.specs.Drawing as phrase
 use Rattle.wf_grammar.specs.Drawing.{word_of_kind, Heads, Part, Draws, Root}
-use Rattle.wf_grammar.proofs.Rules.{scope_of, RootReadIsSpelled}
+use Rattle.wf_grammar.proofs.Rules.{RootReadIsSpelled}
 use Rattle.wf_grammar.proofs.Inputs.{here, piece_here, piece_none, next_here, steps_of, pure_gives}
 use Rattle.wf_grammar.proofs.ReadSteps.{expect_then}
 use Rattle.wf_grammar.proofs.Places.{within, eat_then, unit_then, new_name_then, both_parts, Changed, Changes, ends_changed, change_then}

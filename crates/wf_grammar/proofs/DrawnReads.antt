@@ -16,10 +16,10 @@ use Rattle.wf_grammar.specs.Lexemes.{Lexeme, lexeme_of}
 use Rattle.wf_grammar.specs.Phrases.{Is}
 use Rattle.wf_grammar.specs.Laws.{first_piece}
 use Rattle.wf_grammar.specs.Scopes as scope
-use Rattle.wf_grammar.specs.Scopes.{Scope}
+use Rattle.wf_grammar.specs.Scopes.{Scope, scope_of}
 use Rattle.wf_grammar.specs.Drawing as phrase
 use Rattle.wf_grammar.specs.Drawing.{word_of_kind, Heads, Part, Draws, Root}
-use Rattle.wf_grammar.proofs.Rules.{scope_of, BeginsNoState, RootSpelledIsRead}
+use Rattle.wf_grammar.proofs.Rules.{BeginsNoState, RootSpelledIsRead}
 use Rattle.wf_grammar.proofs.Inputs.{here}
 use Rattle.wf_grammar.proofs.Places.{within}
 use Rattle.wf_grammar.proofs.Giving.{Gave, then_gives, pure_gave, next_is, begins, other_piece, expect_gives, take_gives, eat_gives, eat_not, unit_gives, new_name_gives}

@@ -16,10 +16,10 @@ use Rattle.wf_text.specs.Transitions.{event_if_any, guard_if_any, assignment, ra
 use Rattle.wf_grammar.specs.Lexemes.{Lexeme, lexeme_of}
 use Rattle.wf_grammar.specs.Phrases.{Names, Is, sign_of}
 use Rattle.wf_grammar.specs.Laws.{first_piece, IsNoOperator}
-use Rattle.wf_grammar.specs.Scopes.{Scope}
+use Rattle.wf_grammar.specs.Scopes.{Scope, scope_of}
 use Rattle.wf_grammar.specs.Moving as phrase
 use Rattle.wf_grammar.specs.Moving.{SpellsWhole, OnEvent, IfGuard, Acts, Actions, DoActions, Moves, Transitions}
-use Rattle.wf_grammar.proofs.Rules.{scope_of, TransitionsSpelledAreRead}
+use Rattle.wf_grammar.proofs.Rules.{TransitionsSpelledAreRead}
 use Rattle.wf_grammar.proofs.Inputs.{here, piece_sees}
 use Rattle.wf_grammar.proofs.Places.{within}
 use Rattle.wf_grammar.proofs.Giving.{Gave, then_gives, pure_gave, next_is, begins, not_seen, other_piece, expect_gives, take_gives, eat_gives, eat_not, variable_gives, state_gives, activity_gives, event_gives, expr_gives, fits}

@@ -9,14 +9,10 @@ use Rattle.wf_text.specs.States.{root}
 use Rattle.wf_text.specs.Transitions.{transitions}
 use Rattle.wf_grammar.specs.Lexemes.{Lexeme, lexemes}
 use Rattle.wf_grammar.specs.Laws.{first_piece}
-use Rattle.wf_grammar.specs.Scopes.{Scope}
+use Rattle.wf_grammar.specs.Scopes.{Scope, scope_of}
 use Rattle.wf_grammar.specs.Declaring.{Declarations}
 use Rattle.wf_grammar.specs.Drawing.{Root}
 use Rattle.wf_grammar.specs.Moving.{Transitions}
-
--- what an input has declared
-abbrev pub scope_of : Input → Scope
-scope_of i = record { units = i.units; events = i.events; vars = i.vars; acts = i.acts; states = i.states; names = i.names }
 
 -- the declarations that are read are a front part of the lexemes
 abbrev pub DeclarationsReadAreSpelled : Type 0

@@ -43,9 +43,9 @@ pub data Vars (names : Names) : List Lexeme → List VarId → Type 0 where
       → Vars names (n ∷ comma ∷ ws) (x ∷ xs)
 
 -- [ gives VAR { , VAR } ]
-pub data Gives (names : Names) : List Lexeme → List VarId → Type 0 where
-  gives_nothing : Gives names [] []
-  gives_vars : {ws : List Lexeme} {xs : List VarId} (w : Lexeme) → Is pieces.Gives w → Vars names ws xs → Gives names (w ∷ ws) xs
+pub data Outputs (names : Names) : List Lexeme → List VarId → Type 0 where
+  gives_nothing : Outputs names [] []
+  gives_vars : {ws : List Lexeme} {xs : List VarId} (w : Lexeme) → Is pieces.Gives w → Vars names ws xs → Outputs names (w ∷ ws) xs
 
 -- The lexemes are a declaration, from what was declared before it to what is declared behind it.
 pub data Declares (s : Scope) : List Lexeme → Scope → Type 0 where
@@ -65,7 +65,7 @@ pub data Declares (s : Scope) : List Lexeme → Scope → Type 0 where
   -- activity NAME at UNIT [ gives VAR { , VAR } ] ;
   declares_act : {gs : List Lexeme} (w n at_word place ends : Lexeme) (u : UnitId) (outputs : List VarId)
       → Is pieces.Activity w → IsNewName s n → Is pieces.At at_word → IsNameOf (act_named n s).names (declared_as_a.Unit u) place
-      → Gives (act_named n s).names gs outputs → Is pieces.Semicolon ends
+      → Outputs (act_named n s).names gs outputs → Is pieces.Semicolon ends
       → Declares s (w ∷ n ∷ at_word ∷ place ∷ (gs ++ ends ∷ [])) (with_act (record { name = n.bytes; unit = u; outputs = outputs }) (act_named n s))
 
 -- { decl }

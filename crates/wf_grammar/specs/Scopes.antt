@@ -1,7 +1,7 @@
 -- Of the laws. What is declared where a rule begins, and what a declaration adds.
 use Rattle.std.specs.Prelude.{◌≡◌, ◌≤◌, ℕ, List, [], ◌∷◌, ◌++◌, length, None}
-use lib.Chars.{codes}
 use Rattle.wf_model.specs.Limits.{max_name}
+use Rattle.wf_model.specs.Ids.{unit_id, event_id, var_id, act_id, state_id}
 use Rattle.wf_model.specs.declared.ids.UnitId.{UnitId}
 use Rattle.wf_model.specs.declared.ids.EventId.{EventId}
 use Rattle.wf_model.specs.declared.ids.VarId.{VarId}
@@ -15,6 +15,7 @@ use Rattle.wf_cursor.specs.declared.names.Declared.{Declared}
 use Rattle.wf_cursor.specs.declared.names.Declared.TheVariants as declared_as_a
 use Rattle.wf_cursor.specs.declared.piece.Piece.TheVariants as pieces
 use Rattle.wf_cursor.specs.Names.{declared_as}
+use Rattle.wf_cursor.specs.Input.{Input, start_of}
 use Rattle.wf_grammar.specs.Lexemes.{Lexeme}
 use Rattle.wf_grammar.specs.Phrases.{Names, Is}
 
@@ -27,16 +28,13 @@ pub record Scope : Type 0 where
   pub states : List State
   pub names : Names
 
--- before the first declaration there is the event `fault`
+-- what an input has declared
+abbrev pub scope_of : Input → Scope
+scope_of i = record { units = i.units; events = i.events; vars = i.vars; acts = i.acts; states = i.states; names = i.names }
+
+-- before the first declaration, as at the start of every text, there is the event `fault`
 abbrev pub first_scope : Scope
-first_scope = record {
-  units = [];
-  events = record { name = codes "fault"; unit = None } ∷ [];
-  vars = [];
-  acts = [];
-  states = [];
-  names = (codes "fault", declared_as_a.Event (record { 0 = 0 })) ∷ [];
-}
+first_scope = scope_of (start_of [] [])
 
 -- ---- names
 
@@ -52,19 +50,19 @@ named w what s = record s { names = s.names ++ (w.bytes, what) ∷ [] }
 
 -- the numbers that the next ones have
 abbrev pub next_unit : Scope → UnitId
-next_unit s = record { 0 = length s.units }
+next_unit s = unit_id (length s.units)
 
 abbrev pub next_event : Scope → EventId
-next_event s = record { 0 = length s.events }
+next_event s = event_id (length s.events)
 
 abbrev pub next_var : Scope → VarId
-next_var s = record { 0 = length s.vars }
+next_var s = var_id (length s.vars)
 
 abbrev pub next_act : Scope → ActId
-next_act s = record { 0 = length s.acts }
+next_act s = act_id (length s.acts)
 
 abbrev pub next_state : Scope → StateId
-next_state s = record { 0 = length s.states }
+next_state s = state_id (length s.states)
 
 -- the name is the next unit's, event's, variable's, activity's or state's
 abbrev pub unit_named : Lexeme → Scope → Scope

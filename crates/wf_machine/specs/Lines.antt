@@ -1,4 +1,4 @@
--- Of the laws. What a line of a play does: the reply, and the machine after it.
+-- What a line of a play does: the reply, and the machine after it.
 use Rattle.std.specs.Prelude.{ℕ, zero, suc, ◌+◌, ◌-◌, ◌^◌, ◌++◌, ◌==◌, ◌&&◌, ◌||◌, not, nat_le, if◌then◌else◌, Bool, false, List, [], ◌∷◌, length, map, filter, find, sum, Option, Some, None, Result, Ok, Err}
 use Rattle.std.specs.List.{range_with_len, enumerate_from}
 use Rattle.std.specs.Cmp.Lexicographic.{pointwise}

@@ -1,4 +1,4 @@
--- Of the laws. One server of the counting machine: what it counted, and how it writes.
+-- One server of the counting machine: what it counted, and how it writes.
 use Rattle.std.specs.Prelude.{ℕ, zero, suc, ◌+◌, ◌-◌, ◌++◌, ◌&&◌, nat_lt, min, if◌then◌else◌, Bool, false, List, [], ◌∷◌, length, take, drop, sum, map, slice_get, unwrap_or, Option, Some, None}
 use Rattle.std.specs.List.{range_with_len}
 use Rattle.wf_model.specs.Limits.{max_sealed}

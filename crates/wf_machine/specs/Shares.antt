@@ -1,4 +1,4 @@
--- Of the laws. What a unit tells the others of a step.
+-- What a unit tells the others of a step.
 -- Its share of the central run, and the outers that it lets in two steps later.
 use Rattle.std.specs.Prelude.{ℕ, ◌-◌, ◌==◌, ◌&&◌, Bool, not, List, [], ◌∷◌, length, map, filter, if◌then◌else◌, Option, Some, None, Result, Ok, Err}
 use Rattle.std.specs.List.{range_with_len, filter_map}
@@ -20,7 +20,7 @@ use Rattle.wf_semantics.specs.Run.{CentralState, snapshot_of, fired_in}
 use Rattle.wf_parts.specs.Known.{is_state_of, is_own}
 use Rattle.wf_machine.specs.Server.{outers_sealed}
 use Rattle.wf_machine.specs.Machine.{CountingMachine, Message, server, entries_at, central_at}
-use Rattle.wf_machine.specs.Sights.{state_id}
+use Rattle.wf_model.specs.Ids.{state_id, var_id, trans_id, unit_id}
 
 -- ---- writes
 
@@ -42,7 +42,7 @@ value_given chart snap x t = value_after snap x None (actions_of chart t)
 
 abbrev pub write_or : Option Write → ℕ → ℕ → Option Val → Option Write
 write_or before x t None = before
-write_or before x t (Some val) = Some (record { var = record { 0 = x }; trans = record { 0 = t }; val = val })
+write_or before x t (Some val) = Some (record { var = var_id x; trans = trans_id t; val = val })
 
 -- of these transitions, ascending, the last that gives variable x a value
 abbrev pub write_by : Chart → Snapshot → ℕ → Option Write → List ℕ → Option Write
@@ -66,13 +66,13 @@ fired_at chart u c entries = filter (is_own chart u) (fired_in chart c entries)
 abbrev pub share_by : Chart → ℕ → ℕ → CentralState → List Entry → CentralState → List Outer → Update
 share_by chart u k before entries after outers =
     record {
-      from = record { 0 = u };
+      from = unit_id u;
       step = k;
       flips = map state_id (filter (λ z. is_state_of chart u z && has_flipped before.configuration after.configuration z) (all_states chart));
       writes = writes_of chart (snapshot_of chart before entries) (fired_at chart u before entries);
       raised = raised_by chart (snapshot_of chart before entries).seen (fired_at chart u before entries);
       starts = starts_of chart (fired_at chart u before entries);
-      fired = map (λ t. record { 0 = t }) (fired_at chart u before entries);
+      fired = map trans_id (fired_at chart u before entries);
       outer = outers;
     }
 

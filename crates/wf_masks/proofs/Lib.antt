@@ -1,1 +1,1 @@
-mod Words
+pub mod Words

@@ -27,7 +27,7 @@ zero_at zero k = refl
 zero_at (suc w) zero = refl
 zero_at (suc w) (suc k) = zero_at w k
 
-none_from : (a n : ℕ) → map (λ k. false) (range_with_len a n) ≡ replicate n false
+pub none_from : (a n : ℕ) → map (λ k. false) (range_with_len a n) ≡ replicate n false
 none_from a zero = refl
 none_from a (suc n) = ap (λ (l : List Bool). false ∷ l) (none_from (a + 1) n)
 

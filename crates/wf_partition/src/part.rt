@@ -154,5 +154,5 @@ pub fn part_of(
 {
     let all = all_bits(alloc, checked, flat)?;
     let part = part_from(alloc, checked.chart(), flat, all.as_slice(), unit)?;
-    Ok(Part::seal(part))
+    Part::seal(alloc, part)
 }

@@ -1,3 +1,4 @@
 pub mod Entered
 pub mod FlatSteps
 pub mod Concerned
+pub mod Blocking

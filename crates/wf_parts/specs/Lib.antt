@@ -5,3 +5,4 @@ pub mod Known
 pub mod Peers
 pub mod Parts
 pub mod Laws
+pub mod Rows

@@ -1,5 +1,6 @@
 //! A chart cut into components, and what each unit is given of it: definitions, the types that hold
-//! it, and laws. A `Part` is sealed: it is the part of a unit of an accepted chart.
+//! it, and laws. A `Part` is sealed: it is the part of a unit of an accepted chart, and keeps what
+//! blocks its transitions as sets too, which are made once.
 //!
 //! - Promises: from a configuration the step on components fires the same transitions as the step,
 //!   and leaves the same states in. A unit's own transitions concern it, and so does what blocks
@@ -13,6 +14,7 @@
 mod data;
 mod laws;
 mod part;
+mod rows;
 
 pub use data::{
     Component, Flat, Known, KnownActivity, KnownEvent, KnownState, KnownVariable, PartData,
@@ -20,3 +22,4 @@ pub use data::{
 };
 pub use laws::{blockers_concern, flat_step, own_concerns};
 pub use part::Part;
+pub use rows::Rows;

@@ -1,14 +1,19 @@
 //! The part of a unit, sealed.
-ghost use Rattle.std.specs.Prelude.{◌≡◌};
+ghost use Rattle.std.specs.Prelude.{◌≡◌, IfOk};
 ghost use Rattle.wf_parts.specs.Parts.{IsPart};
+ghost use Rattle.wf_parts.specs.Rows.{AreRows};
 
-use crate::PartData;
+use crate::{PartData, Rows};
+use std::alloc::Global;
 use std::marker::Model;
+use wf_model::NoMemory;
 
-/// What a unit is given of a chart: the part of a unit of an accepted chart. Contracts see it as that data.
+/// What a unit is given of a chart: the part of a unit of an accepted chart. Contracts see it as that data. Beside it, it keeps the
+/// blockers of the transitions as sets.
 #[derive(Drop)]
 pub struct Part {
     given: PartData,
+    rows: Rows,
 }
 
 impl Model for Part {
@@ -16,6 +21,7 @@ impl Model for Part {
     ghost use Rattle.wf_model.specs.contracts.expr.Expr as expr;
     ghost use Rattle.std.specs.Coded.{codes};
     ghost use Rattle.wf_parts.specs.Parts.{IsPart};
+    ghost use Rattle.wf_parts.specs.Rows.{AreRows};
 
     ghost Value = { PartData };
 
@@ -23,16 +29,18 @@ impl Model for Part {
 
     ghost view = { λ part. part.given };
 
-    ghost invariant = { λ part. IsPart part.given };
+    ghost invariant = { λ part. (IsPart part.given) × (AreRows part.given.transitions part.rows) };
 }
 
 impl Part {
-    /// Seals the part of a unit. Takes no memory.
-    pub fn seal(given: PartData) -> Part
+    /// Seals the part of a unit. It refuses only if memory runs out. In time that grows with the part's transitions squared and with their
+    /// blockers.
+    pub fn seal(alloc: Global, given: PartData) -> Result<Part, NoMemory>
         requires { IsPart given }
-        ensures { result ≡ given }
+        ensures { IfOk result (λ part. part ≡ given) }
     {
-        Part { given }
+        let rows = Rows::of(alloc, given.transitions.as_slice())?;
+        Ok(Part { given, rows })
     }
 
     /// The data, lent: the part of a unit of an accepted chart.
@@ -41,5 +49,12 @@ impl Part {
         ensures part { IsPart self.now }
     {
         &self.given
+    }
+
+    /// The blockers of each transition, lent, as sets of places in the part's list of transitions.
+    pub fn rows(&self) -> &Rows
+        ensures { AreRows self.now.transitions result.now }
+    {
+        &self.rows
     }
 }

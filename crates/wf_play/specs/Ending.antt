@@ -1,4 +1,4 @@
--- Of other calls. The written text of a play's ending. No call cites it yet.
+-- The written text of a play's ending.
 -- Which units were recovered, what each unit shows, and the merged list.
 use Rattle.std.specs.Prelude.{ℕ, ◌++◌, List, [], ◌∷◌, flat_map}
 use Rattle.std.specs.List.{enumerate_from}

@@ -1,4 +1,4 @@
--- Of other calls. The written text of replies to the lines of a play.
+-- The written text of replies to the lines of a play.
 use Rattle.std.specs.Prelude.{ℕ, ◌==◌, ◌++◌, Bool, true, false, List, [], flat_map, Option, Some, None, if◌then◌else◌}
 use Rattle.std.specs.List.{enumerate_from, join_by}
 use Rattle.std.specs.Int.{bit_at}

@@ -1,4 +1,4 @@
--- Of other calls. A script of a play, or the first line of it outside the grammar.
+-- A script of a play, or the first line of it outside the grammar.
 use Rattle.std.specs.Prelude.{ℕ, List, Result}
 use Rattle.wf_model.specs.declared.chart.Chart.{Chart}
 use Rattle.wf_scripts.specs.declared.script.ScriptFault.{ScriptFault}

@@ -4,7 +4,7 @@
 //!   line outside the grammar. `append_reply` adds the defined line of a reply, `append_ending` the
 //!   defined lines of the end; if memory runs out, the text is as before.
 //! - Doesn't say: what of a refused line is wrong.
-//! - A caller: none; no command runs a play.
+//! - A caller: `wf_top` answers the command `play` with these.
 //! - A change of a play's line begins in `specs/Lines.antt`, one of how a reply is written in
 //!   `specs/Replies.antt`, one of the end in `specs/Ending.antt`.
 #![tactic(auto)]

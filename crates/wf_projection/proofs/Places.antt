@@ -1,9 +1,10 @@
 -- The places of what each Turn sealed, by unit and by step.
 use Rattle.std.proofs.Common.{◌≡◌, ℕ, zero, suc, ◌+◌, ◌-◌, ◌<◌, ◌≤◌, min, List, [], ◌∷◌, ◌++◌, map, flat_map, length, take, get_or, sum, Option, None, All, slice_get, unwrap_or, subst, refl, sym, ap, ap₂, ◌∙◌, arith}
+use Rattle.std.specs.Prelude.{Result, Ok, Err, IfOk}
 use Rattle.std.specs.List.{range_with_len}
 use Rattle.std.proofs.lemmas.List.{get_or-map, length-map}
 use Rattle.std.proofs.lemmas.Option.{unwrap_or-slice_get}
-use Rattle.std.proofs.lemmas.List.FromFn.{map-range_with_len_more}
+use Rattle.std.proofs.lemmas.List.FromFn.{map-range_with_len_more, length-map-range_with_len}
 use Rattle.std.proofs.lemmas.List.Sums.{sum_by_more, sum_by_more_le}
 use Rattle.wf_model.proofs.Rows.{row_at}
 use Rattle.wf_machine.specs.declared.admission.Place.{Place}
@@ -15,7 +16,7 @@ use Rattle.wf_histories.specs.Agreement.{least_to, least_taken}
 use Rattle.wf_histories.proofs.MergedList.{least_taken_below}
 use Rattle.wf_worlds.specs.Growing.{Fits}
 use Rattle.wf_steps.specs.Room.{Kept}
-use Rattle.wf_projection.specs.Merged.{AreOf, places_at, merged_places}
+use Rattle.wf_projection.specs.Merged.{AreOf, places_at, turn_places, unit_places, AreTurns, merged_places}
 
 -- HISTORIES
 
@@ -33,6 +34,19 @@ all_fit histories h are fits u lt =
     subst Fits (sym (get_or-map (λ (k : Kept). k.past) histories u kept (h u) lt) ∙ row_at h (length histories) u (h u) (map (λ k. k.past) histories) are lt) (fits u kept lt)
 
 -- THE LEAST COUNT
+
+-- a unit's Turns are as many as it took
+pub long_at : (units : List (List (List Place))) (h : ℕ → History) (i : ℕ) (item : List (List Place)) → AreTurns units h → i < length units → item ≡ get_or units i item → length item ≡ taken (h i)
+long_at units h i item are lt is =
+    ap (λ (l : List (List Place)). length l) (is ∙ row_at (λ u. unit_places u (h u)) (length units) i item units are lt)
+    ∙ length-map-range_with_len (turn_places i (h i)) 0 (taken (h i))
+
+-- there are as many units as histories
+pub units_long : (units : List (List (List Place))) (h : ℕ → History) (n : ℕ) → units ≡ map (λ u. unit_places u (h u)) (range_with_len 0 n) → length units ≡ n
+units_long units h n is = ap (λ (l : List (List (List Place))). length l) is ∙ length-map-range_with_len (λ u. unit_places u (h u)) 0 n
+
+pub turns_here : (units : List (List (List Place))) (h : ℕ → History) (n : ℕ) → units ≡ map (λ u. unit_places u (h u)) (range_with_len 0 n) → AreTurns units h
+turns_here units h n is = is ∙ ap (λ (k : ℕ). map (λ u. unit_places u (h u)) (range_with_len 0 k)) (sym (units_long units h n is))
 
 pub turns_taken : (kept h : History) (turns : List TurnDone) → turns ≡ kept.turns → kept ≡ h → length turns ≡ taken h
 turns_taken kept h turns same is = ap length (same ∙ ap (λ (x : History). x.turns) is) ∙ sym (length-map h.turns (λ (turn : TurnDone). turn.sealed))
@@ -59,12 +73,6 @@ place_more u before number places le e =
     ap (λ (l : List Place). l ++ place_of u (number + 1) ∷ []) e
     ∙ sym (map-range_with_len_more (place_of u) (before + 1) (number - before) (number + 1) (omega (arith, le)))
     ∙ ap (λ (n : ℕ). map (place_of u) (range_with_len (before + 1) n)) (let q : number - before + 1 ≡ number + 1 - before = omega (arith, le) in q)
-
-abbrev pub turn_places : ℕ → History → ℕ → List Place
-turn_places u h j = map (place_of u) (numbers_sealed (seals h) (j + 1))
-
-abbrev pub unit_places : ℕ → History → List (List Place)
-unit_places u h = map (turn_places u h) (range_with_len 0 (taken h))
 
 -- what a Turn sealed
 pub sealed_is : (h : History) (turns : List TurnDone) (i : ℕ) (turn : TurnDone) → turns ≡ h.turns → i < length turns → turn ≡ get_or turns i turn → turn.sealed ≡ get_or (seals h) i 0
@@ -131,3 +139,8 @@ unfolding merged_places
 list_is n h =
     ap₂ (λ (second : List Place) (more : List (List Place)). [] ∷ second ∷ more) (sym (none_at {B = Place} 0 n)) (shifted (places_at n h) 0 (least_taken n h))
     ∙ ap (λ (k : ℕ). map (places_at n h) (range_with_len 1 k)) (let q : suc (suc (least_taken n h)) ≡ least_taken n h + 2 = omega arith in q)
+
+-- what follows from a fact on each value
+pub if_ok : {A E : Type 0} (r : Result A E) (P Q : A → Type 0) → ((x : A) → P x → Q x) → IfOk r P → IfOk r Q
+if_ok (Ok x) P Q follows p = follows x p
+if_ok (Err e) P Q follows p = tt

@@ -1,14 +1,11 @@
 -- The run of all parts is the units' shares.
-use Rattle.std.proofs.Common.{◌≡◌, ℕ, ◌≤◌, true, List, [], map, length, sym, ap, ◌∙◌, arith}
+use Rattle.std.proofs.Common.{◌≡◌, ℕ, true, List, [], map, length, sym, ap, ◌∙◌, arith}
 use Rattle.std.specs.List.{list_all, range_with_len}
-use Rattle.std.proofs.lemmas.Bool.{leb-true}
 use Rattle.std.proofs.lemmas.List.FromFn.{length-map-range_with_len}
-use Rattle.wf_model.specs.Limits.{max_units}
 use Rattle.wf_model.specs.declared.chart.Chart.{Chart}
 use Rattle.wf_model.specs.declared.outer.Entry.{Entry}
-use Rattle.wf_model.specs.Accepted.{IsAccepted, is_small}
+use Rattle.wf_model.specs.Accepted.{IsAccepted}
 use Rattle.wf_model.proofs.Rows.{row_agree}
-use Rattle.wf_semantics.proofs.Facts.{rules}
 use Rattle.wf_runs.specs.Runs.{IsRun}
 use Rattle.wf_parts.specs.declared.data.PartData.{PartData}
 use Rattle.wf_parts.specs.Parts.{part_of}
@@ -16,13 +13,6 @@ use Rattle.wf_lockstep.specs.Shares.{entries_at, share_of}
 use Rattle.wf_lockstep.specs.Lock.{lock_update, outers_by}
 use Rattle.wf_lockstep.specs.Ordered.{rises}
 use Rattle.wf_lockstep.proofs.Ordered.{lockstep_in_order}
-
-small_chart : (chart : Chart) → is_small chart ≡ true → length chart.units ≤ max_units
-unfolding is_small
-small_chart chart h = leb-true (length chart.units) max_units (grind arith)
-
-pub few_units : (chart : Chart) → IsAccepted chart → length chart.units ≤ max_units
-few_units chart ok = small_chart chart (rules chart ok).small
 
 pub parts_long : (chart : Chart) (parts : List PartData) → parts ≡ map (part_of chart) (range_with_len 0 (length chart.units)) → length parts ≡ length chart.units
 parts_long chart parts are = ap length are ∙ length-map-range_with_len (part_of chart) 0 (length chart.units)

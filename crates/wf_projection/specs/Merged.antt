@@ -7,7 +7,7 @@ use Rattle.wf_model.specs.declared.outer.Entry.{Entry}
 use Rattle.wf_machine.specs.declared.admission.Place.{Place}
 use Rattle.wf_machine.specs.Server.{numbers_sealed}
 use Rattle.wf_machine.specs.Machine.{place_of}
-use Rattle.wf_histories.specs.Histories.{Admission, History, seals}
+use Rattle.wf_histories.specs.Histories.{Admission, History, seals, taken}
 use Rattle.wf_histories.specs.Agreement.{least_taken, entry}
 use Rattle.wf_histories.specs.Laws.{merged_of, IsCentral}
 use Rattle.wf_steps.specs.Room.{Kept}
@@ -21,6 +21,17 @@ abbrev pub places_at : ℕ → (ℕ → History) → ℕ → List Place
 places_at n h zero = []
 places_at n h (suc zero) = []
 places_at n h (suc (suc j)) = flat_map (λ u. map (place_of u) (numbers_sealed (seals (h u)) j)) (range_with_len 0 n)
+
+-- what each Turn of a unit sealed, by places; and of all units, in unit order
+
+abbrev pub turn_places : ℕ → History → ℕ → List Place
+turn_places u h j = map (place_of u) (numbers_sealed (seals h) (j + 1))
+
+abbrev pub unit_places : ℕ → History → List (List Place)
+unit_places u h = map (turn_places u h) (range_with_len 0 (taken h))
+
+abbrev pub AreTurns : List (List (List Place)) → (ℕ → History) → Type 0
+AreTurns units h = units ≡ map (λ u. unit_places u (h u)) (range_with_len 0 (length units))
 
 -- THE MERGED LIST of n units, from step 1 to the least taken count + 2
 unfoldable pub merged_places : ℕ → (ℕ → History) → List (List Place)

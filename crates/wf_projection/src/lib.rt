@@ -13,4 +13,4 @@ mod contributions;
 mod merging;
 
 pub use contributions::shares;
-pub use merging::merged;
+pub use merging::{merged, places_by_turn, places_in_order};

@@ -3,29 +3,28 @@ ghost use Rattle.std.specs.Prelude.{◌≡◌, ◌+◌, ◌-◌, ◌≤◌, ℕ,
 ghost use Rattle.std.specs.List.{range_with_len};
 ghost use Rattle.wf_model.specs.Limits.{max_units};
 ghost use Rattle.wf_model.specs.declared.chart.Chart.{Chart};
-ghost use Rattle.wf_machine.specs.Server.{numbers_sealed};
 ghost use Rattle.wf_machine.specs.Machine.{place_of};
-ghost use Rattle.wf_histories.specs.Histories.{History as Past, seals, taken};
+ghost use Rattle.wf_histories.specs.Histories.{History as Past};
 ghost use Rattle.wf_histories.specs.Agreement.{least_taken};
 ghost use Rattle.wf_histories.specs.Laws.{AreLean};
 ghost use Rattle.wf_worlds.specs.Growing.{Fits};
-ghost use Rattle.wf_projection.specs.Merged.{AreOf, merged_places, IsCentralAt};
+ghost use Rattle.wf_projection.specs.Merged.{AreOf, unit_places, AreTurns, merged_places, IsCentralAt};
 
 use std::alloc::Global;
 use wf_machine::Place;
 use wf_model::{List, NoMemory, UnitId};
 use wf_steps::History;
 
-// The least taken count, 0 of no unit.
-fn least_taken(histories: &[History]) -> usize
-    ensures { (h : ℕ → Past) → AreOf histories.now h → result ≡ least_taken (length histories.now) h }
+// The least count of Turns, 0 of no unit.
+fn least_taken(units: &[List<List<Place>>]) -> usize
+    ensures { (h : ℕ → Past) → AreTurns units.now h → result ≡ least_taken (length units.now) h }
 {
-    let Some(first) = histories.first() else {
+    let Some(first) = units.first() else {
         return 0;
     };
-    let mut least = first.turns().len();
-    for history in histories {
-        least = least.min(history.turns().len());
+    let mut least = first.len();
+    for turns in units {
+        least = least.min(turns.len());
     }
     least
 }
@@ -45,14 +44,15 @@ fn places_from(alloc: Global, unit: UnitId, before: u64, last: u64) -> Result<Li
     Ok(places)
 }
 
-// The places of what each Turn of a unit sealed.
-fn places_by_turn(
+/// The places of what each Turn of a unit sealed, in order. Its history seals no more than it has. It refuses only if memory runs out.
+/// Linear in the admissions and the Turns.
+pub fn places_by_turn(
     alloc: Global,
     unit: UnitId,
     history: &History,
 ) -> Result<List<List<Place>>, NoMemory>
     requires { Fits history.now.past }
-    ensures { IfOk result (λ turns. turns ≡ map (λ j. map (place_of unit.0) (numbers_sealed (seals history.now.past) (j + 1))) (range_with_len 0 (taken history.now.past))) }
+    ensures { IfOk result (λ turns. turns ≡ unit_places unit.0 history.now.past) }
 {
     let admitted = history.admissions().len() as u64;
     let mut turns = List::new(alloc);
@@ -70,7 +70,7 @@ fn places_by_turn(
 fn places_by_unit(alloc: Global, histories: &[History]) -> Result<List<List<List<Place>>>, NoMemory>
     requires units { length histories.now ≤ max_units }
     requires fits { All (λ history. Fits history.past) histories.now }
-    ensures { (h : ℕ → Past) → AreOf histories.now h → IfOk result (λ units. units ≡ map (λ u. map (λ j. map (place_of u) (numbers_sealed (seals (h u)) (j + 1))) (range_with_len 0 (taken (h u)))) (range_with_len 0 (length histories.now))) }
+    ensures { (h : ℕ → Past) → AreOf histories.now h → IfOk result (λ units. units ≡ map (λ u. unit_places u (h u)) (range_with_len 0 (length histories.now))) }
 {
     let mut units = List::new(alloc);
     for (unit, history) in histories.iter().enumerate() {
@@ -104,6 +104,24 @@ fn step_places(
     Ok(places)
 }
 
+/// The merged list of units, from the places of what each of their Turns sealed, in unit order: for each step, from the first one to two past
+/// the least count of Turns, the places of its entries. It refuses only if memory runs out. Linear in the places, and in the steps times the
+/// units.
+pub fn places_in_order(
+    alloc: Global,
+    units: &[List<List<Place>>],
+) -> Result<List<List<Place>>, NoMemory>
+    ensures { (h : ℕ → Past) → AreTurns units.now h → IfOk result (λ steps. steps ≡ merged_places (length units.now) h) }
+{
+    let mut steps = List::new(alloc);
+    steps.push(List::new(alloc))?;
+    steps.push(List::new(alloc))?;
+    for at in 0..least_taken(units) {
+        steps.push(step_places(alloc, units, at)?)?;
+    }
+    Ok(steps)
+}
+
 /// The merged list of the units' histories: for each step, from the first one to two past the least count of steps that a unit has
 /// taken, the places of its entries. Those of steps 1 and 2 are none. Those of a step past them are the admissions that each unit's
 /// Turn two steps before sealed, in unit order, each with its unit and its number there, counted from 1. There is a history for each
@@ -120,11 +138,5 @@ pub fn merged(alloc: Global, histories: &[History]) -> Result<List<List<Place>>,
     ensures central { (chart : Chart) (h : ℕ → Past) → AreOf histories.now h → length histories.now ≡ length chart.units → AreLean chart h → IfOk result (IsCentralAt chart h) }
 {
     let units = places_by_unit(alloc, histories)?;
-    let mut steps = List::new(alloc);
-    steps.push(List::new(alloc))?;
-    steps.push(List::new(alloc))?;
-    for at in 0..least_taken(histories) {
-        steps.push(step_places(alloc, units.as_slice(), at)?)?;
-    }
-    Ok(steps)
+    places_in_order(alloc, units.as_slice())
 }

@@ -8,13 +8,12 @@ use Rattle.wf_model.specs.declared.chart.Chart.{Chart}
 use Rattle.wf_model.specs.Accepted.{IsAccepted}
 use Rattle.wf_lex.specs.declared.token.Token.{Token}
 use Rattle.wf_lex.proofs.Sliced.{tokens_sliced}
-use Rattle.wf_cursor.specs.Input.{Input, chart_with}
+use Rattle.wf_cursor.specs.Input.{Input, start_of, chart_with}
 use Rattle.wf_print.specs.ChartText.{chart_text}
 use Rattle.wf_grammar.specs.Lexemes.{Lexeme, lexeme_of}
-use Rattle.wf_grammar.specs.Scopes.{Scope, first_scope}
+use Rattle.wf_grammar.specs.Scopes.{Scope, scope_of, first_scope}
 use Rattle.wf_grammar.specs.Declaring.{Declarations}
 use Rattle.wf_grammar.specs.Charts.{IsChart, is_chart}
-use Rattle.wf_grammar.proofs.Rules.{scope_of}
 use Rattle.wf_grammar.proofs.ChartRead.{chart_read}
 use Rattle.wf_grammar.proofs.ChartSpelled.{chart_spelled}
 use Rattle.wf_grammar.proofs.Declared.{declarations_read}
@@ -43,6 +42,7 @@ text_of_few_is_meant text tokens chart cut few of =
     chart_spelled text of.0 chart (answered text of.0 size of.1) of.2
 
 first_scope_is : (i : Input) → made_of i ≡ start i → i.states ≡ [] → scope_of i ≡ first_scope
+unfolding start_of
 first_scope_is i fresh no_state =
     ap (λ (m : Made). let s : Scope = record { units = m.units; events = m.events; vars = m.vars; acts = m.acts; states = m.states; names = m.names } in s) fresh
     ∙ ap (λ (xs : List State). record first_scope { states = xs }) no_state

@@ -17,11 +17,11 @@ use Rattle.wf_server.specs.declared.fault.Admitted.TheVariants.{New, Again}
 use Rattle.wf_server.specs.declared.fault.AdmitFault.{AdmitFault}
 use Rattle.wf_server.specs.declared.fault.AdmitFault.TheVariants as admits
 use Rattle.wf_server.specs.Servers.{Server, told_by, admission, admit_record, with_admission}
-use Rattle.wf_server.specs.Images.{Stands, CrashLeaves}
+use Rattle.wf_server.specs.Images.{Stands, IsPlaced, CrashLeaves}
 use Rattle.wf_server.specs.Running.{RunsOn}
 use Rattle.wf_server.specs.Answers.{AdmitAnswers, IsNew, IsNewRequest, unadmitted_by}
 use Rattle.wf_server.proofs.Beginnings.{begins_admitted}
-use Rattle.wf_server.proofs.Standing.{Written, Appended, crash_none, crash_append, stands_ok, stands_err}
+use Rattle.wf_server.proofs.Standing.{Written, Appended, crash_none, crash_append, healthy_ok, placed_ok, placed_err, stands_ok, stands_err}
 use Rattle.wf_server.proofs.Runs.{runs_none, runs_ok, runs_err, reopen_failed}
 use Rattle.wf_server.proofs.Asked.{said_ok, said_err, said_disk, never_said_long}
 
@@ -81,6 +81,7 @@ module _ {D : Type 0} (told : D → Told) (lawful : (d : D) → IsLawful (told d
     written = record {
       entry = admit_record request outer;
       read = is.read;
+      spelled = is.spelled;
       follows = admit_follows a.part a.past request outer (may_admit a request outer new_inside);
       on = begins_admitted a.past (admission request outer);
     }
@@ -95,6 +96,15 @@ module _ {D : Type 0} (told : D → Told) (lawful : (d : D) → IsLawful (told d
 
     pub stands_kept : (fault : AppendFault) → result ≡ Err fault → Stands (told j'.disk) j'.failed a.part a.past
     stands_kept fault err = stands_err told lawful a.journal j' body result a.part a.past (with_admission a.past request outer) stands written said new_inside.healthy fault err
+
+    pub healthy_added : result ≡ Ok tt → j'.failed ≡ false
+    healthy_added done = healthy_ok told lawful a.journal j' body result a.part a.past (with_admission a.past request outer) stands written said new_inside.healthy done
+
+    pub placed_added : IsPlaced told a.journal a.part a.past → result ≡ Ok tt → IsPlaced told j' a.part (with_admission a.past request outer)
+    placed_added placed done = placed_ok told lawful a.journal j' body result a.part a.past (with_admission a.past request outer) stands written said placed done
+
+    pub placed_kept : IsPlaced told a.journal a.part a.past → (fault : AppendFault) → result ≡ Err fault → IsPlaced told j' a.part a.past
+    placed_kept placed fault err = placed_err told lawful a.journal j' body result a.part a.past (with_admission a.past request outer) stands written said placed fault err
 
     pub answer_added : (n : ℕ) → result ≡ Ok tt → n ≡ length a.past.admissions + 1 → AdmitAnswers b request outer (Ok (New n))
     answer_added n done number =

@@ -15,7 +15,7 @@ use Rattle.wf_model.specs.declared.chart.Activity.{Activity}
 use Rattle.wf_model.specs.declared.chart.State.{State}
 use Rattle.wf_model.specs.Accepted.{IsAccepted, is_accepted, is_named, names_of}
 use Rattle.wf_model.proofs.Bools.{and_both, or_left}
-use Rattle.wf_journal.specs.Frames.{Frame, open_gate, header, number_of, fits, frames_after, frames_from, frames_at, bodies_of, end_of, is_broken, IsAtRest}
+use Rattle.wf_journal.specs.Frames.{Frame, open_gate, header, number_of, fits, frames_after, frames_from, frames_at, bodies_of, end_of, is_broken, is_open_at, can_start, IsAtRest}
 use Rattle.wf_journal.specs.Journal.{IsPlace, IsRead}
 use Rattle.wf_journal.proofs.Ends.{end_after, end_of-walk}
 use Rattle.wf_codec.specs.Bodies.{IsBodyOf}
@@ -29,6 +29,7 @@ use Rattle.wf_worlds.specs.Worlds.{first_history}
 use Rattle.wf_steps.specs.declared.fault.RecoverFault.{RecoverFault}
 use Rattle.wf_steps.specs.Records.{head_of, and_on, read_on, history_in, history_of}
 use Rattle.wf_server.specs.Starting.{has_none}
+use Rattle.wf_server.proofs.Reading.{can_start_whole}
 
 -- FILES
 
@@ -83,6 +84,14 @@ has_some_of (body ∷ bodies) e = refl
 pub rests_readable : (file : List ℕ) (place : ℕ) → IsAtRest file place → IsPlace file 0
 unfolding end_of is_broken frames_at
 rests_readable file place rests = record { end = refl; whole = rests.whole; within = let w = rests.within in omega (arith, w) }
+
+whole_read : (file : List ℕ) → IsPlace file 0 → is_broken file ≡ false
+unfolding is_broken
+whole_read file is = ap (is_open_at file) is.end ∙ is.whole
+
+-- a journal starts on a file that can be read
+pub can_start_read : (file : List ℕ) → IsPlace file 0 → can_start file ≡ true
+can_start_read file is = can_start_whole file (whole_read file is)
 
 -- HISTORIES
 

@@ -16,7 +16,7 @@ use Rattle.wf_steps.specs.Replicas.{prepared_of}
 use Rattle.wf_server.specs.declared.node.Ready.{Ready}
 use Rattle.wf_server.specs.Servers.{Server, held, held_in, inputs_of, turn_record, with_turn}
 use Rattle.wf_server.specs.Inbox.{IsPeer, AllCame, IsUpdateOf, IsInbox}
-use Rattle.wf_server.specs.Images.{Stands}
+use Rattle.wf_server.specs.Images.{Stands, IsPlaced}
 use Rattle.wf_server.specs.Nodes.{IsReady, IsNode}
 use Rattle.wf_server.proofs.Arrivals.{inbox_filled, not_all}
 
@@ -43,10 +43,11 @@ some_ready P x holds = λ y is. subst P (some_is is) holds
 
 module _ {D : Type 0} (told : D → Told) where
   -- where part and history are these
-  pub node_of : (j : Kept D) (r : Replicated) (came early : List (Option Update)) (ready : Option Ready) (part : PartData) (past : History) → r.part ≡ part → r.past ≡ past → Stands (told j.disk) j.failed part past → IsInbox part (taken past + 1) came → IsInbox part (taken past + 2) early →
+  pub node_of : (j : Kept D) (r : Replicated) (came early : List (Option Update)) (ready : Option Ready) (part : PartData) (past : History) → r.part ≡ part → r.past ≡ past → Stands (told j.disk) j.failed part past → IsPlaced told j part past → IsInbox part (taken past + 1) came → IsInbox part (taken past + 2) early →
       ForSome ready (IsReady j.room r came) → IsNode told j r came early ready
-  node_of j r came early ready part past part_is past_is stands came_is early_is ready_is = record {
+  node_of j r came early ready part past part_is past_is stands placed came_is early_is ready_is = record {
     stands = at_both (λ p h. Stands (told j.disk) j.failed p h) part_is past_is stands;
+    placed = at_both (λ p h. IsPlaced told j p h) part_is past_is placed;
     came_is = at_both (λ p h. IsInbox p (taken h + 1) came) part_is past_is came_is;
     early_is = at_both (λ p h. IsInbox p (taken h + 2) early) part_is past_is early_is;
     ready_is = ready_is;
@@ -54,9 +55,9 @@ module _ {D : Type 0} (told : D → Told) where
 
   -- with more room, and another disk on which the history stands
   pub node_kept : (j j' : Kept D) (r r' : Replicated) (came early : List (Option Update)) (ready : Option Ready) → IsNode told j r came early ready → r'.part ≡ r.part → r'.past ≡ r.past → r.turn_room ≤ r'.turn_room → r.item_room ≤ r'.item_room → j.room ≤ j'.room →
-      Stands (told j'.disk) j'.failed r.part r.past → IsNode told j' r' came early ready
-  node_kept j j' r r' came early ready n part past turns items room stands =
-      node_of j' r' came early ready r.part r.past part past stands n.came_is n.early_is (λ x is. more x (n.ready_is x is))
+      Stands (told j'.disk) j'.failed r.part r.past → IsPlaced told j' r.part r.past → IsNode told j' r' came early ready
+  node_kept j j' r r' came early ready n part past turns items room stands placed =
+      node_of j' r' came early ready r.part r.past part past stands placed n.came_is n.early_is (λ x is. more x (n.ready_is x is))
     where
       more : (x : Ready) → IsReady j.room r came x → IsReady j'.room r' came x
       more x y = record {
@@ -64,15 +65,16 @@ module _ {D : Type 0} (told : D → Told) where
         may = at_both (λ p h. MayTurn p h (inputs_of came)) part past y.may;
         prepared = at_both (λ p h. x.prepared ≡ prepared_of p h (inputs_of came)) part past y.prepared;
         body = subst (λ h. IsBodyOf (turn_record h came) x.body) (sym past) y.body;
+        short = y.short;
         turn_room = let q = y.turn_room in omega (arith, q, turns);
         item_room = let q = y.item_room in omega (arith, q, items);
         journal_room = let q = y.journal_room in omega (arith, q, room);
       }
 
   -- after an admission
-  pub node_unready : (j : Kept D) (r : Replicated) (came early : List (Option Update)) (part : PartData) (past next : History) → r.part ≡ part → r.past ≡ next → taken next ≡ taken past → Stands (told j.disk) j.failed part next → IsInbox part (taken past + 1) came → IsInbox part (taken past + 2) early → IsNode told j r came early None
-  node_unready j r came early part past next part_is past_is took stands came_is early_is =
-      node_of j r came early None part next part_is past_is stands
+  pub node_unready : (j : Kept D) (r : Replicated) (came early : List (Option Update)) (part : PartData) (past next : History) → r.part ≡ part → r.past ≡ next → taken next ≡ taken past → Stands (told j.disk) j.failed part next → IsPlaced told j part next → IsInbox part (taken past + 1) came → IsInbox part (taken past + 2) early → IsNode told j r came early None
+  node_unready j r came early part past next part_is past_is took stands placed came_is early_is =
+      node_of j r came early None part next part_is past_is stands placed
       (subst (λ t. IsInbox part (t + 1) came) (sym took) came_is) (subst (λ t. IsInbox part (t + 2) early) (sym took) early_is) (none_ready (IsReady j.room r came))
 
   -- after a Turn
@@ -80,9 +82,9 @@ module _ {D : Type 0} (told : D → Told) where
   empty_inbox part step slots size none = record { size = size; each = λ v update there. absurd (none_some (sym (none v) ∙ there)) }
 
   pub node_turned : (j j0 : Kept D) (r r0 : Replicated) (came early came0 early0 : List (Option Update)) (ready : Option Ready) (ready0 : Option Ready) → IsNode told j0 r0 came0 early0 ready0 → r.part ≡ r0.part → r.past ≡ with_turn r0.past came0 → came ≡ early0 → length early ≡ length came0 → ((v : ℕ) → held_in early v ≡ None) → ready ≡ None →
-      Stands (told j.disk) j.failed r0.part (with_turn r0.past came0) → IsNode told j r came early ready
-  node_turned j j0 r r0 came early came0 early0 ready ready0 n part past came_is size none unready stands =
-      node_of j r came early ready r0.part (with_turn r0.past came0) part past stands
+      Stands (told j.disk) j.failed r0.part (with_turn r0.past came0) → IsPlaced told j r0.part (with_turn r0.past came0) → IsNode told j r came early ready
+  node_turned j j0 r r0 came early came0 early0 ready ready0 n part past came_is size none unready stands placed =
+      node_of j r came early ready r0.part (with_turn r0.past came0) part past stands placed
       (subst (λ (slots : List (Option Update)). IsInbox r0.part (taken (with_turn r0.past came0) + 1) slots) (sym came_is) (subst (λ t. IsInbox r0.part t early0) step n.early_is))
       (empty_inbox r0.part (taken (with_turn r0.past came0) + 2) early (size ∙ n.came_is.size) none)
       (subst (λ (o : Option Ready). ForSome o (IsReady j.room r came)) (sym unready) (none_ready (IsReady j.room r came)))
@@ -101,6 +103,7 @@ module _ {D : Type 0} (told : D → Told) where
     pub node_next : (slots : List (Option Update)) → held_in came update.from.0 ≡ None → update.step ≡ taken r.past + 1 → slots ≡ slice_set came update.from.0 (Some update) → IsNode told j r slots early ready
     node_next slots none step is = record {
       stands = n.stands;
+      placed = n.placed;
       came_is = subst (IsInbox r.part (taken r.past + 1)) (sym is) (inbox_filled r.part (taken r.past + 1) came update n.came_is (fits (taken r.past + 1) step) (within came (taken r.past + 1) n.came_is));
       early_is = n.early_is;
       ready_is = λ x there. absurd (not_all r.part came update.from.0 peer none (n.ready_is x there).all_came);
@@ -109,6 +112,7 @@ module _ {D : Type 0} (told : D → Told) where
     pub node_later : (slots : List (Option Update)) → update.step ≡ taken r.past + 2 → slots ≡ slice_set early update.from.0 (Some update) → IsNode told j r came slots ready
     node_later slots step is = record {
       stands = n.stands;
+      placed = n.placed;
       came_is = n.came_is;
       early_is = subst (IsInbox r.part (taken r.past + 2)) (sym is) (inbox_filled r.part (taken r.past + 2) early update n.early_is (fits (taken r.past + 2) step) (within early (taken r.past + 2) n.early_is));
       ready_is = n.ready_is;

@@ -1,13 +1,14 @@
 -- How the stretches of a start follow each other.
 use Rattle.std.proofs.Common.{◌≡◌, ℕ, ◌+◌, ◌≤◌, ◌<◌, nat_lt, Bool, true, false, List, Option, Some, None, refl, sym, ap, ◌∙◌, subst, inl, inr, ⊎_elim, arith, rules}
 use Rattle.std.specs.Prelude.{◌⊎◌, is_some}
+use Rattle.wf_model.specs.Faults.{last_count}
 use Rattle.wf_disk.specs.Disk.{Told, IsSame, IsLawful, IsDown, IsSafeFor, HasCause, KeepsPlan, GoesOnOrStops, LeavesOnly}
 use Rattle.wf_disk.proofs.Runs.{started, stays, weaker, joined, cause_since, cause_none, plan_then, same_first}
 use Rattle.wf_journal.specs.Plan.{WentOn, Struck}
 use Rattle.wf_journal.proofs.Plans.{went_none, went_same, down_on}
 use Rattle.wf_parts.specs.declared.data.PartData.{PartData}
 use Rattle.wf_steps.specs.Records.{history_of}
-use Rattle.wf_server.specs.Images.{HoldsOneOf}
+use Rattle.wf_server.specs.Images.{IsLike, HoldsOneOf}
 use Rattle.wf_server.specs.Starting.{RunsFor}
 use Rattle.wf_server.specs.Heads.{KeepsHistory, Stretch}
 use Rattle.wf_server.proofs.Standing.{some_is}
@@ -19,8 +20,18 @@ told_too a (Some now) same file is = (now, refl)
 
 -- NOTHING WAS DONE
 
+like_self : (part : PartData) (file : List ℕ) → IsLike part file file
+like_self part file = record { begun = λ some. some; starts = λ can. can; history = refl }
+
+like_then : (part : PartData) (a b c : List ℕ) → IsLike part a b → IsLike part b c → IsLike part a c
+like_then part a b c first second = record {
+  begun = λ some. second.begun (first.begun some);
+  starts = λ can. second.starts (first.starts can);
+  history = second.history ∙ first.history;
+}
+
 holds_now : (part : PartData) (d : Told) (c : List ℕ) → d.may_leave c → HoldsOneOf part d.may_leave c
-holds_now part d c may = (c, may, refl)
+holds_now part d c may = (c, may, like_self part c)
 
 pub keeps_same : (part : PartData) (old new : Told) → IsLawful old → IsSame old new → KeepsHistory part old new
 keeps_same part old new lawful same = record {
@@ -30,6 +41,7 @@ keeps_same part old new lawful same = record {
 
 pub runs_same : (old new : Told) (failed : Type 0) → IsSame old new → (failed → IsDown old) → HasCause old new failed → RunsFor old new 0 failed
 runs_same old new failed same down cause = record {
+  within = let clock = same.clock in omega (arith, clock);
   done = λ _. went_same old old new (went_none old) same;
   struck = λ fails. inr (went_same old old new (went_none old) same, down_on old new same (down fails));
   safe = λ safe fails. safe (old.clock + 1) (omega arith) (omega arith) (down fails (old.clock + 1) (omega arith));
@@ -88,6 +100,7 @@ module _ (old mid new : Told) (tells : is_some mid.image ≡ is_some old.image) 
 
   pub runs_then : (m n : ℕ) (failed : Type 0) → mid.clock ≤ old.clock + m → mid.faults ≡ old.faults → RunsFor mid new n failed → RunsFor old new (m + n) failed
   runs_then m n failed few faults runs = record {
+    within = let last = runs.within in omega (arith, few, last);
     done = λ none. went_then (runs.done none);
     struck = λ fails. ⊎_elim (λ s. inl (struck_then m n few s)) (λ d. inr (went_then d.0, d.1)) (runs.struck fails);
     safe = λ safe fails. runs.safe (safe_then m n few safe) fails;
@@ -103,8 +116,16 @@ module _ (old mid new : Told) (tells : is_some mid.image ≡ is_some old.image) 
         let run = a.crash file is in
         joined old mid new (HoldsOneOf part old.may_leave) run
         (weaker mid new (HoldsOneOf part mid.may_leave) (HoldsOneOf part old.may_leave) (b.crash here.0 here.1)
-        (λ c one. let two = run.each one.0 (lawful.counts_now old.moment run.later one.0 one.1) in (two.0, two.1, one.2 ∙ two.2)));
+        (λ c one. let two = run.each one.0 (lawful.counts_now old.moment run.later one.0 one.1) in (two.0, two.1, like_then part two.0 one.0 c two.2 one.2)));
   }
+
+-- the clock of one that failed
+pub struck_within : (old new : Told) (most : ℕ) → Struck old new most → new.clock ≤ old.clock + most
+struck_within old new most s = go s.clock
+  where
+    go : (new.clock ≡ s.stroke) ⊎ ((new.clock ≡ last_count) × (s.stroke ≡ last_count + 1)) → new.clock ≤ old.clock + most
+    go (inl at) = let in_time = s.within in omega (arith, at, in_time)
+    go (inr end) = let in_time = s.within in let at = end.0 in let last = end.1 in omega (arith, at, last, in_time)
 
 -- fewer strokes
 pub struck_more : (old new : Told) (m n : ℕ) → m ≤ n → Struck old new m → Struck old new n
@@ -123,6 +144,7 @@ safe_less old m n le safe k after within fails = safe k after (omega (arith, le,
 
 pub runs_more : (old new : Told) (m n : ℕ) (failed : Type 0) → m ≤ n → RunsFor old new m failed → RunsFor old new n failed
 runs_more old new m n failed le runs = record {
+  within = let last = runs.within in omega (arith, le, last);
   done = runs.done;
   struck = λ fails. ⊎_elim (λ s. inl (struck_more old new m n le s)) (λ d. inr d) (runs.struck fails);
   safe = λ safe fails. runs.safe (safe_less old m n le safe) fails;
@@ -136,6 +158,7 @@ stretch_more part old new m n failed le s = record { runs = runs_more old new m 
 -- the same answer in other words
 pub runs_as : (old new : Told) (most : ℕ) (F G : Type 0) → (F → G) → (G → F) → RunsFor old new most F → RunsFor old new most G
 runs_as old new most F G to from runs = record {
+  within = runs.within;
   done = λ none. runs.done (λ f. none (to f));
   struck = λ g. runs.struck (from g);
   safe = λ safe g. runs.safe safe (from g);

@@ -22,11 +22,12 @@ use Rattle.wf_server.specs.declared.fault.Turn.TheVariants.{Took}
 use Rattle.wf_server.specs.declared.fault.TurnFault.{TurnFault}
 use Rattle.wf_server.specs.declared.fault.TurnFault.TheVariants as turns
 use Rattle.wf_server.specs.Servers.{Server, told_by, inputs_of, held, held_in, turn_record, with_turn}
-use Rattle.wf_server.specs.Images.{Stands, CrashLeaves}
+use Rattle.wf_server.specs.Images.{Stands, IsPlaced, CrashLeaves}
 use Rattle.wf_server.specs.Running.{RunsOn}
+use Rattle.wf_steps.specs.Ends.{longest_turn}
 use Rattle.wf_server.specs.Answers.{CanTurn, TurnAnswers, untaken_by}
 use Rattle.wf_server.proofs.Beginnings.{begins_turned}
-use Rattle.wf_server.proofs.Standing.{Written, Appended, crash_none, crash_append, stands_ok, stands_err}
+use Rattle.wf_server.proofs.Standing.{Written, Appended, crash_none, crash_append, healthy_ok, placed_ok, placed_err, stands_ok, stands_err}
 use Rattle.wf_server.proofs.Runs.{runs_none, runs_ok, runs_err, reopen_failed}
 use Rattle.wf_server.proofs.Asked.{said_ok, said_err, said_disk, never_said_long}
 
@@ -97,6 +98,7 @@ module _ {D : Type 0} (told : D → Told) (lawful : (d : D) → IsLawful (told d
   written = record {
     entry = turn_record a.past a.came;
     read = is.read;
+    spelled = is.spelled;
     follows = turn_follows a.part a.past a.came may;
     on = begins_turned a.past (inputs_of a.came);
   }
@@ -112,16 +114,25 @@ module _ {D : Type 0} (told : D → Told) (lawful : (d : D) → IsLawful (told d
   pub stands_kept : (fault : AppendFault) → result ≡ Err fault → Stands (told j'.disk) j'.failed a.part a.past
   stands_kept fault err = stands_err told lawful a.journal j' body result a.part a.past (with_turn a.past a.came) stands written said can_inside.healthy fault err
 
+  pub healthy_added : result ≡ Ok tt → j'.failed ≡ false
+  healthy_added done = healthy_ok told lawful a.journal j' body result a.part a.past (with_turn a.past a.came) stands written said can_inside.healthy done
+
+  pub placed_added : IsPlaced told a.journal a.part a.past → result ≡ Ok tt → IsPlaced told j' a.part (with_turn a.past a.came)
+  placed_added placed done = placed_ok told lawful a.journal j' body result a.part a.past (with_turn a.past a.came) stands written said placed done
+
+  pub placed_kept : IsPlaced told a.journal a.part a.past → (fault : AppendFault) → result ≡ Err fault → IsPlaced told j' a.part a.past
+  placed_kept placed fault err = placed_err told lawful a.journal j' body result a.part a.past (with_turn a.past a.came) stands written said placed fault err
+
   pub answer_added : (k : ℕ) → result ≡ Ok tt → k ≡ taken a.past + 1 → TurnAnswers b (Ok (Took k))
   answer_added k done step = let P : Server D → Type 0 = λ s. TurnAnswers s (Ok (Took k)) in subst P view_is (can_inside, said_ok told a.journal j' (turn_record a.past a.came) body is result said done, step)
 
-  pub answer_refused : (fault : AppendFault) → result ≡ Err fault → TurnAnswers b (Err (untaken_by fault))
-  answer_refused fault err = let P : Server D → Type 0 = λ s. TurnAnswers s (Err (untaken_by fault)) in subst P view_is (go fault err)
+  pub answer_refused : length body ≤ longest_turn → (fault : AppendFault) → result ≡ Err fault → TurnAnswers b (Err (untaken_by fault))
+  answer_refused short fault err = let P : Server D → Type 0 = λ s. TurnAnswers s (Err (untaken_by fault)) in subst P view_is (go fault err)
     where
       go : (fault : AppendFault) → result ≡ Err fault → TurnAnswers a (Err (untaken_by fault))
       go appends.Reopen err = reopen_failed _ _ _ (said_err told a.journal j' (turn_record a.past a.came) body is result said appends.Reopen err (λ e. cc e) (λ e. cc e))
       go appends.TooLong err = absurd (never_said_long told a.journal j' (turn_record a.past a.came) body is result said err)
-      go appends.Full err = (can_inside, said_err told a.journal j' (turn_record a.past a.came) body is result said appends.Full err (λ e. cc e) (λ e. cc e))
+      go appends.Full err = (can_inside, said_err told a.journal j' (turn_record a.past a.came) body is result said appends.Full err (λ e. cc e) (λ e. cc e), subst (λ (bytes : List ℕ). length bytes ≤ longest_turn) is.spelled short)
       go appends.NoMemory err = tt
       go appends.DiskFailed err = (can_inside, said_disk told a.journal j' (turn_record a.past a.came) body is result said can_inside.healthy err)
 
@@ -163,8 +174,8 @@ module _ {D : Type 0} (told : D → Told) (lawful : (d : D) → IsLawful (told d
         room_inside : (told a.journal.disk).has_room 2 (length (record_spelling (turn_record a.past a.came)) + 6)
         room_inside = let P : Server D → Type 0 = λ s. (told_by told s).has_room 2 (length (record_spelling (turn_record s.past s.came)) + 6) in subst P (sym view_is) room
 
-    pub answer_err : TurnAnswers b r
-    answer_err = subst (TurnAnswers b) (sym r_is) (answer_refused fault err)
+    pub answer_err : length body ≤ longest_turn → TurnAnswers b r
+    answer_err short = subst (TurnAnswers b) (sym r_is) (answer_refused short fault err)
 
     pub runs_of_err : RunsOn (told_by told b) (told j'.disk) (IsOk r) (IsErrOf r turns.NoMemory) (IsErrOf r turns.DiskFailed)
     runs_of_err = let P : Result Turn TurnFault → Type 0 = λ x. RunsOn (told_by told b) (told j'.disk) (IsOk x) (IsErrOf x turns.NoMemory) (IsErrOf x turns.DiskFailed) in subst P (sym r_is) (runs_refused fault err)

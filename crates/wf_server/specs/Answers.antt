@@ -1,6 +1,6 @@
 -- Of other calls. What `admit` and `turn` answer, by what the server is.
 -- The conditions exclude each other, so that each decides its answer, unless memory runs out or the disk fails.
-use Rattle.std.specs.Prelude.{◌≡◌, ◌≢◌, ℕ, ◌+◌, ◌<◌, false, true, length, List, Option, Some, None, option_map, slice_get, Result, Ok, Err}
+use Rattle.std.specs.Prelude.{◌≡◌, ◌≢◌, ℕ, ◌+◌, ◌<◌, ◌≤◌, false, true, length, List, Option, Some, None, option_map, slice_get, Result, Ok, Err}
 use Rattle.wf_model.specs.Limits.{max_steps}
 use Rattle.wf_model.specs.declared.outer.Outer.{Outer}
 use Rattle.wf_model.specs.declared.outer.OuterFault.{OuterFault}
@@ -13,6 +13,7 @@ use Rattle.wf_journal.specs.Faults.{refusal_of}
 use Rattle.wf_histories.specs.Histories.{Admission, History, taken}
 use Rattle.wf_worlds.specs.Admitting.{lets_in}
 use Rattle.wf_steps.specs.Growing.{place_of}
+use Rattle.wf_steps.specs.Ends.{longest_turn}
 use Rattle.wf_server.specs.declared.fault.Admitted.{Admitted}
 use Rattle.wf_server.specs.declared.fault.Admitted.TheVariants.{New, Again}
 use Rattle.wf_server.specs.declared.fault.AdmitFault.{AdmitFault}
@@ -70,7 +71,7 @@ abbrev pub TurnAnswers : {D : Type 0} → Server D → Result Turn TurnFault →
 TurnAnswers server (Err turns.Reopen) = server.journal.failed ≡ true
 TurnAnswers server (Err (turns.Waiting set)) = (server.journal.failed ≡ false) × AreMissing server.part server.came set.0 × (set.0 ≢ 0)
 TurnAnswers server (Err turns.StepLimit) = (server.journal.failed ≡ false) × AllCame server.part server.came × (taken server.past ≡ max_steps)
-TurnAnswers server (Err turns.JournalFull) = CanTurn server × (says_to_turn server ≡ Some appends.Full)
+TurnAnswers server (Err turns.JournalFull) = CanTurn server × (says_to_turn server ≡ Some appends.Full) × (length (record_spelling (turn_record server.past server.came)) ≤ longest_turn)
 TurnAnswers server (Err turns.NoMemory) = Unit {0}
 TurnAnswers server (Err turns.DiskFailed) = CanTurn server × (says_to_turn server ≡ None)
 TurnAnswers server (Ok (Took k)) = CanTurn server × (says_to_turn server ≡ None) × (k ≡ taken server.past + 1)
@@ -80,6 +81,14 @@ abbrev pub IsNew : Result Admitted AdmitFault → Type 0
 IsNew (Ok (New n)) = Unit {0}
 IsNew (Ok (Again n)) = ⊥
 IsNew (Err fault) = ⊥
+
+-- the journal was asked to add the admission
+abbrev pub IsAsked : Result Admitted AdmitFault → Type 0
+IsAsked (Ok (New n)) = Unit {0}
+IsAsked (Ok (Again n)) = ⊥
+IsAsked (Err admits.JournalFull) = Unit {0}
+IsAsked (Err admits.DiskFailed) = Unit {0}
+IsAsked (Err fault) = ⊥
 
 -- A refusal of the part, and one of the journal, as a server tells it.
 

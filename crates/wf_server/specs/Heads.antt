@@ -1,5 +1,5 @@
 -- Inner. What a stretch of a start does to its disk, and what its head has.
-use Rattle.std.specs.Prelude.{Result, Err, ◌≡◌, ◌≢◌, ℕ, ◌+◌, List, [], Some, if◌then◌else◌}
+use Rattle.std.specs.Prelude.{Result, Err, ◌≡◌, ◌≢◌, ℕ, ◌+◌, List, [], Option, Some, None, if◌then◌else◌}
 use Rattle.wf_disk.specs.Disk.{Told, Only, LeavesOnly}
 use Rattle.wf_journal.specs.Frames.{bodies_of}
 use Rattle.wf_journal.specs.Start.{CanBeRead}
@@ -39,6 +39,11 @@ pub record IsOpen (disk : Told) : Type 0 where
   pub begun : IsBegun disk
   pub still : IsStill disk
   pub readable : CanBeRead disk
+
+-- at most so many strokes a head takes on a disk with this image
+abbrev pub most_head : Option (List ℕ) → ℕ
+most_head None = 4
+most_head (Some file) = if has_none (bodies_of file) then 4 else 0
 
 -- a head takes four strokes, and none is written where there is a frame
 abbrev pub HeadStrokes : Told → Told → Type 0

@@ -1,5 +1,5 @@
 -- Of other calls. What a start answers, and what it does to its disk.
-use Rattle.std.specs.Prelude.{◌≡◌, ◌⊎◌, ℕ, ◌+◌, ◌≤◌, true, false, nat_lt, not, Bool, List, [], ◌∷◌, length, None, Result, Ok, Err, if◌then◌else◌, is_some}
+use Rattle.std.specs.Prelude.{◌≡◌, ◌⊎◌, ℕ, ◌+◌, ◌≤◌, true, false, nat_lt, not, Bool, List, [], ◌∷◌, length, Option, Some, None, Result, Ok, Err, if◌then◌else◌, is_some}
 use Rattle.wf_disk.specs.Disk.{Told, IsDown, IsSafeFor, HasCause}
 use Rattle.wf_journal.specs.Frames.{bodies_of, is_broken, end_of, can_start}
 use Rattle.wf_journal.specs.Plan.{WentOn, Struck}
@@ -8,6 +8,7 @@ use Rattle.wf_journal.specs.declared.fault.StartFault.{StartFault}
 use Rattle.wf_journal.specs.declared.fault.StartFault.TheVariants as starts
 use Rattle.wf_steps.specs.declared.fault.RecoverFault.{RecoverFault}
 use Rattle.wf_steps.specs.declared.fault.RecoverFault.TheVariants as recovery
+use Rattle.wf_histories.specs.Histories.{History}
 use Rattle.wf_steps.specs.Records.{history_of}
 use Rattle.wf_server.specs.declared.fault.NodeFault.{NodeFault}
 use Rattle.wf_server.specs.declared.fault.NodeFault.TheVariants as faults
@@ -54,15 +55,32 @@ has_none (body ∷ bodies) = false
 abbrev pub strokes_on : List ℕ → ℕ
 strokes_on file = if nat_lt (length file) 2 then 7 else (if has_none (bodies_of file) then 5 else 1)
 
+-- at most so many it makes on a disk with this image
+abbrev pub most_on : Option (List ℕ) → ℕ
+most_on None = 7
+most_on (Some file) = strokes_on file
+
 -- A call of at most so many strokes fails at the first of them that the disk is to fail, or finds the disk down, and not over a disk that
 -- isn't to fail one; with another answer none was to fail. The disk's count of faults rises exactly if it fails.
 pub record RunsFor (old new : Told) (most : ℕ) (failed : Type 0) : Type 0 where
+  pub within : new.clock ≤ old.clock + most
   pub done : (failed → ⊥) → WentOn old new
   pub struck : failed → Struck old new most ⊎ (WentOn old new × IsDown new)
   pub safe : IsSafeFor old (most + 1) → failed → ⊥
   pub cause : HasCause old new failed
   pub tells : is_some new.image ≡ is_some old.image
 
--- a start makes at most 7 strokes
+-- a start makes as many as its disk's image asks
 abbrev pub StartRuns : Told → Told → Type 0 → Type 0
-StartRuns old new failed = RunsFor old new 7 failed
+StartRuns old new failed = RunsFor old new (most_on old.image) failed
+
+-- A START OVER AN IMAGE THAT A SERVER LEFT makes one stroke. At Ok it was done; else it failed, or the disk was down, or memory ran out.
+
+pub record Reopens (old new : Told) (past now : History) : Type 0 where
+  pub history : now ≡ past
+  pub went_on : WentOn old new
+  pub clock : new.clock ≡ old.clock + 1
+
+pub record StaysShut (old new : Told) (fault : NodeFault) : Type 0 where
+  pub why : (fault ≡ faults.DiskFailed) ⊎ (fault ≡ faults.NoMemory)
+  pub runs : RunsFor old new 1 (fault ≡ faults.DiskFailed)

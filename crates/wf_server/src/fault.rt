@@ -21,16 +21,16 @@ pub enum AdmitFault {
     #[error("request {number} was used")]
     RequestReused { number: u64, kept: Outer },
     /// The event or activity isn't at the unit.
-    #[error("wrong unit")]
+    #[error("the event or activity is not at the unit")]
     WrongUnit,
     /// The unit has no item of this number and activity.
-    #[error("no item")]
+    #[error("there is no such item")]
     NoItem,
     /// An admission completes the item.
-    #[error("already done")]
+    #[error("the item is done already")]
     AlreadyDone,
     /// The outputs aren't those of the activity, in order and sort.
-    #[error("wrong output")]
+    #[error("the outputs are not those of the activity")]
     WrongOutput,
     /// The journal's file would grow past its limit.
     #[error("the journal is full")]
@@ -112,12 +112,12 @@ pub enum NodeFault {
     /// An open gate stands at this place, but no whole frame and gate behind it.
     #[error("the frame at byte {at} is not whole")]
     BadFrame { at: u64 },
-    /// The disk failed. Its count of faults rose.
-    #[error("the disk failed")]
-    DiskFailed,
     /// Memory ran out.
     #[error("out of memory")]
     NoMemory,
+    /// The disk failed. Its count of faults rose.
+    #[error("the disk failed")]
+    DiskFailed,
 }
 
 impl From<NoMemory> for AdmitFault {

@@ -1,12 +1,13 @@
 //! A server of one unit.
-ghost use Rattle.std.specs.Prelude.{◌≡◌, ◌⊎◌, ◌+◌, ◌≤◌, suc, ℕ, true, false, Some, List, length, IfOk};
+ghost use Rattle.std.specs.Prelude.{◌≡◌, ◌⊎◌, ◌+◌, ◌<◌, ◌≤◌, ◌^◌, suc, ℕ, true, false, Some, List, length, IfOk};
 ghost use Rattle.std.specs.Option.{option_copied};
-ghost use Rattle.wf_histories.specs.Histories.{taken, local_update};
+ghost use Rattle.wf_histories.specs.Histories.{taken, local, local_update};
 ghost use Rattle.wf_steps.specs.Growing.{IsMade};
 ghost use Rattle.wf_steps.specs.Items.{items_of, item_steps};
 ghost use Rattle.wf_worlds.specs.Growing.{Fits};
-ghost use Rattle.wf_server.specs.Servers.{held};
-ghost use Rattle.wf_server.specs.Images.{Holds, HoldsOn};
+ghost use Rattle.wf_server.specs.Servers.{held, inputs_of};
+ghost use Rattle.wf_server.specs.Inbox.{IsInbox};
+ghost use Rattle.wf_server.specs.Images.{Holds, HoldsOn, IsPlaced};
 ghost use Rattle.wf_server.specs.Sending.{shown_state, shown_var};
 
 mod admission;
@@ -17,15 +18,16 @@ mod opening;
 mod step;
 
 use crate::NodeFault;
-use inbox::slot_of;
+use inbox::{copies_of, slot_of};
 use std::alloc::Global;
 use std::marker::Model;
 use wf_activities::Items;
 use wf_disk::{Arm, Disk, MemDisk};
 use wf_journal::Journal;
-use wf_model::{Bytes, StateId, UnitId, Update, Val, VarId};
+use wf_model::{Bytes, List, NoMemory, StateId, UnitId, Update, Val, VarId};
 use wf_parts::Part;
 use wf_steps::{History, Prepared, Replica};
+use wf_updates::View;
 
 /// Why no node is started. Part and disk are given back.
 #[derive(Drop)]
@@ -83,15 +85,31 @@ impl<D: Disk> Model for Node<D> {
 
 impl<D: Disk> Node<D> {
     /// The disk, lent. If it tells its image, that holds just this history until a disk call of `admit` or `turn` failed, and so does
-    /// what a crash now may leave; after such a failure a crash leaves a history that begins with this one. Takes no memory.
+    /// what a crash now may leave; after such a failure a crash leaves a history that begins with this one. The journal's closed gate stands
+    /// behind a head and the records of the history. Takes no memory.
     pub fn disk(&self) -> &D
         ensures disk { result.now ≡ self.now.journal.disk }
         ensures stands { self.now.journal.failed ≡ false → (file : List ℕ) → (D.told self.now.journal.disk).image ≡ Some file →
             (c : List ℕ) → (D.told self.now.journal.disk).may_leave c → Holds self.now.part self.now.past c }
         ensures stays { (file : List ℕ) → (D.told self.now.journal.disk).image ≡ Some file →
             (c : List ℕ) → (D.told self.now.journal.disk).may_leave c → HoldsOn self.now.part self.now.past c }
+        ensures place { IsPlaced D.told self.now.journal self.now.part self.now.past }
     {
         self.journal.disk()
+    }
+
+    /// The part, lent. Takes no memory.
+    pub fn part(&self) -> &Part
+        ensures { result.now ≡ self.now.part }
+    {
+        self.replica.part()
+    }
+
+    /// The view after the steps taken, lent. Takes no memory.
+    pub fn view(&self) -> &View
+        ensures { result.now ≡ local self.now.part self.now.past (taken self.now.past) }
+    {
+        self.replica.view()
     }
 
     /// The history, lent: some records made it, each of which may follow those before it, and it seals no more than was admitted. Takes
@@ -104,10 +122,11 @@ impl<D: Disk> Node<D> {
         self.replica.history()
     }
 
-    /// The unit's items: those of the steps taken, where what an admission completes is closed. Takes no memory.
+    /// The unit's items: those of the steps taken, where what an admission completes is closed. There are fewer than 2^32. Takes no memory.
     pub fn items(&self) -> &Items
         ensures items { result.now.items ≡ items_of self.now.part self.now.past }
         ensures steps { result.now.steps ≡ item_steps self.now.part self.now.past (taken self.now.past) }
+        ensures few { length result.now.items < 2 ^ 32 }
     {
         self.replica.items()
     }
@@ -162,9 +181,12 @@ impl<D: Disk> Node<D> {
         letters::value_of(self.replica.view().vars(), var)
     }
 
-    /// The update that is held of a unit and a step, if one is: of the next step, or of the one behind it. Takes no memory.
+    /// The update that is held of a unit and a step, if one is: of the next step, or of the one behind it. There is a slot for each unit,
+    /// in order, that of the own one empty, and each holds an update of its unit that the part takes in. Takes no memory.
     pub fn held(&self, peer: UnitId, step: u32) -> Option<&Update>
-        ensures { option_copied result ≡ held self.now peer.0 step }
+        ensures held { option_copied result ≡ held self.now peer.0 step }
+        ensures came { IsInbox self.now.part (taken self.now.past + 1) self.now.came }
+        ensures early { IsInbox self.now.part (taken self.now.past + 2) self.now.early }
     {
         let taken = self.replica.taken();
         if step == taken + 1 {
@@ -176,17 +198,26 @@ impl<D: Disk> Node<D> {
         }
     }
 
-    /// Gives part and disk back.
-    pub fn close(self) -> (Part, D)
+    /// Copies of the updates of the next step that are held, in unit order. It refuses only if memory runs out. In linear time in them.
+    pub fn inputs(&self) -> Result<List<Update>, NoMemory>
+        ensures { IfOk result (λ inputs. inputs ≡ inputs_of self.now.came) }
+    {
+        copies_of(self.alloc, self.came.as_slice())
+    }
+
+    /// Gives part, disk and history back.
+    pub fn close(self) -> (Part, D, History)
         ensures part { result.0 ≡ self.part }
         ensures disk { result.1 ≡ self.journal.disk }
+        ensures past { result.2.past ≡ self.past }
     {
         let Node {
             journal,
             replica,
             ..
         } = self;
-        (replica.into_part(), journal.close())
+        let (part, history) = replica.close();
+        (part, journal.close(), history)
     }
 }
 

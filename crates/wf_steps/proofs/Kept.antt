@@ -1,5 +1,5 @@
 -- What a unit's items have, by the records that made its history.
-use Rattle.std.proofs.Common.{◌≡◌, ℕ, zero, suc, ◌+◌, ◌*◌, ◌<◌, ◌≤◌, ◌==◌, ◌||◌, ◌&&◌, not, nat_lt, cond, Bool, true, false, List, [], ◌∷◌, ◌++◌, map, filter, length, inl, inr, refl, sym, ap, ap₂, ◌∙◌, arith, eqb-true, true≢false, le-leb, lt-ltb, is_ok}
+use Rattle.std.proofs.Common.{◌≡◌, ℕ, zero, suc, ◌+◌, ◌*◌, ◌^◌, ◌<◌, ◌≤◌, ◌==◌, ◌||◌, ◌&&◌, not, nat_lt, cond, Bool, true, false, List, [], ◌∷◌, ◌++◌, map, filter, length, inl, inr, refl, sym, ap, ap₂, ◌∙◌, arith, eqb-true, true≢false, le-leb, lt-ltb, is_ok}
 use Rattle.std.proofs.lemmas.Bool.{ltb-true, ltb-false}
 use Rattle.std.specs.Prelude.{All}
 use Rattle.std.proofs.lemmas.List.Elements.{All-from_recursion}
@@ -37,7 +37,7 @@ use Rattle.wf_steps.specs.Items.{own_acts, is_completed, items_of, in_order, new
 use Rattle.wf_steps.proofs.ItemsGrow.{length_items}
 use Rattle.wf_steps.specs.Growing.{MayAdmit, MayTurn, IsMade, no_records, with_admission, with_turn}
 use Rattle.wf_steps.proofs.Turning.{all_now}
-use Rattle.wf_steps.proofs.Made.{made_fits, inputs_taken, each_few, inputs_few, range_made}
+use Rattle.wf_steps.proofs.Made.{made_fits, made_steps, inputs_taken, each_few, inputs_few, range_made}
 use Rattle.wf_steps.proofs.Rules.{item_within, let_item}
 
 -- OWN STARTS
@@ -237,3 +237,7 @@ completed_there part (with_turn h inputs made may) n l =
     ap (λ (n : ℕ). length (item_acts part (turned h inputs) n)) tk ∙ length_append (item_acts part (turned h inputs) (taken h)) (new_acts part (all_at part (turned h inputs) (taken h)))
     in
     completed_there part made n (omega (arith, same, long, l))
+
+-- there are fewer than 2^32
+pub items_below : (part : PartData) → IsPart part → {h : History} → IsMade part h → length (items_of part h) < 2 ^ 32
+items_below part is {h} made = let long = items_long part h in let few = items_few part is made in let steps = made_steps part made in omega (arith, long, few, steps)

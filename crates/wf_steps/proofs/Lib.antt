@@ -8,3 +8,5 @@ pub mod Fits
 pub mod Worked
 pub mod Follows
 pub mod Reading
+pub mod Ends
+pub mod Short

@@ -31,7 +31,7 @@ none_after at (g ∷ (a ∷ (b ∷ (c ∷ (d ∷ rest))))) e = go ((g == open_ga
     go true q = absurd (omega (arith, q))
     go false q = refl
 
-no_frames : (file : List ℕ) (place : ℕ) → IsPlace file place → place ≡ end_of file → frames_from file place ≡ []
+pub no_frames : (file : List ℕ) (place : ℕ) → IsPlace file place → place ≡ end_of file → frames_from file place ≡ []
 no_frames file place is ends = none_after place (drop place file) (let q = is.end in omega (arith, ends, q, end_from-walk file place))
 
 pub rest_end : (part : PartData) (file : List ℕ) (place : ℕ) (h : History) → IsPlace file place → place ≡ end_of file → read_on part (bodies file place) place h ≡ Ok h

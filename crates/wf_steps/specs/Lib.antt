@@ -2,6 +2,7 @@ pub mod Room
 pub mod Fitting
 pub mod Items
 pub mod Growing
+pub mod Ends
 pub mod Records
 pub mod Replicas
 pub mod Recovering

@@ -2,25 +2,14 @@
 ghost use Rattle.std.specs.Prelude.{◌≡◌, ◌↔◌, IsTrue, flat_map};
 ghost use Rattle.std.specs.List.{list_all};
 ghost use Rattle.wf_views.specs.Views.{outputs_of};
-ghost use Rattle.wf_model.specs.Seen.{val_sort};
-ghost use Rattle.wf_model.specs.Sorts.{alike};
 ghost use Rattle.wf_owns.specs.Sorted.{part_sort, is_fit_value, is_fit_output, is_fit_write, is_fit};
 ghost use Rattle.wf_steps.specs.Fitting.{is_state_from, is_event_from, is_act_from, is_outer_from, suits, MayBeReceived, is_input, are_inputs};
 
 use crate::rule::is_at;
+use wf_activities::has_sort;
 use wf_codec::is_in_range;
 use wf_model::{ActId, EventId, Outer, Output, Sort, StateId, UnitId, Update, Val, VarId, Write};
 use wf_parts::{Known, PartData};
-
-fn has_sort(val: &Val, sort: Sort) -> bool
-    ensures { result ≡ alike sort (val_sort val.now) }
-{
-    match val {
-        Val::Bool(_) => matches!(sort, Sort::Bool),
-        Val::Int(_) => matches!(sort, Sort::Int),
-        Val::Text(_) => matches!(sort, Sort::Text),
-    }
-}
 
 // The sort of a variable that the part knows.
 fn part_sort(part: &PartData, var: VarId) -> Option<Sort>

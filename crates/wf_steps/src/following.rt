@@ -1,7 +1,9 @@
 //! Records of a journal, one after another.
-ghost use Rattle.std.specs.Prelude.{◌≡◌, Some, None, OnOk, IsErrOf};
+ghost use Rattle.std.specs.Prelude.{◌≡◌, ◌+◌, length, Some, None, OnOk, IsErrOf};
+ghost use Rattle.wf_journal.specs.Frames.{header};
 ghost use Rattle.wf_codec.specs.Records.{IsRecordInRange};
 ghost use Rattle.wf_codec.specs.declared.record.JournalRecord.TheVariants.{Admit, Turn};
+ghost use Rattle.wf_steps.specs.Ends.{end_of_history};
 ghost use Rattle.wf_steps.specs.Records.{admission_follows, turn_follows, after, after_body};
 
 use crate::Replica;
@@ -123,6 +125,7 @@ pub fn take_body(alloc: Global, replica: &mut Replica, body: &[u8]) -> Result<()
     ensures part { replica.new.part ≡ replica.old.part }
     ensures ok { OnOk result (after_body replica.old.part replica.old.past body.now ≡ Some replica.new.past) }
     ensures misfit { IsErrOf result Unfollowed.Misfit → after_body replica.old.part replica.old.past body.now ≡ None }
+    ensures grows { OnOk result (end_of_history replica.new.part replica.new.past ≡ end_of_history replica.old.part replica.old.past + (header + length body.now)) }
 {
     let entry = decode_record(alloc, body)?;
     follow(alloc, replica, entry)

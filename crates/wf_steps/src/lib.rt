@@ -10,6 +10,7 @@
 //! - A change of what a record makes of a history begins in `specs/Records.antt`.
 #![tactic(auto)]
 
+mod bodies;
 mod fault;
 mod fitting;
 mod following;

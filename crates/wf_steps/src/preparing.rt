@@ -1,12 +1,13 @@
 //! What a Turn takes in and makes.
 ghost use Rattle.std.specs.Prelude.{◌≡◌, ◌≤◌, ◌==◌, ◌++◌, length, insert, filter, take, IfOk, OnOk};
-ghost use Rattle.wf_activities.specs.UnitItems.{is_listed, listed};
+ghost use Rattle.wf_activities.specs.UnitItems.{listed};
 ghost use Rattle.wf_views.specs.Absorbing.{starts_in};
 ghost use Rattle.wf_worlds.specs.Admitting.{outers};
 ghost use Rattle.wf_steps.specs.Items.{in_order};
 
 use crate::Admission;
 use std::alloc::Global;
+use wf_activities::is_listed;
 use wf_model::limits::MAX_TRANSITIONS;
 use wf_model::{ActId, Duplicate, List, NoMemory, Outer, StartAt, Update};
 
@@ -41,13 +42,6 @@ pub fn first_outers(
         found.push(admission.outer.copy(alloc)?)?;
     }
     Ok(found)
-}
-
-// Whether the activity is one of these.
-fn is_listed(acts: &[ActId], act: ActId) -> bool
-    ensures { result ≡ is_listed acts.now act.0 }
-{
-    acts.iter().any(|known| known.0 == act.0)
 }
 
 // Adds those of the starts whose activities are listed. After `NoMemory` some may have been added.

@@ -1,12 +1,15 @@
 //! A unit's history, read from its journal.
-ghost use Rattle.std.specs.Prelude.{◌≡◌, ◌+◌, ◌≤◌, ◌&&◌, Ok, Err, length, if◌then◌else◌, IfOk, IfErr, IsErrOf, IsErrAnd};
+ghost use Rattle.std.specs.Prelude.{◌≡◌, ◌+◌, ◌≤◌, ◌&&◌, List, ℕ, Some, Ok, Err, length, if◌then◌else◌, OnOk, IfOk, IfErr, IsErrOf, IsErrAnd};
 ghost use Rattle.std.specs.Str.{bytes_eq};
 ghost use Rattle.wf_disk.specs.Disk.{IsSame, IsDown, HasCause};
-ghost use Rattle.wf_journal.specs.Frames.{header};
+ghost use Rattle.wf_journal.specs.Frames.{header, end_of};
+ghost use Rattle.wf_journal.specs.Journal.{IsPlace};
 ghost use Rattle.wf_codec.specs.Records.{record_of};
+ghost use Rattle.wf_codec.specs.declared.record.JournalRecord.TheVariants.{Head};
 ghost use Rattle.wf_worlds.specs.Worlds.{first_history};
 ghost use Rattle.wf_steps.specs.Records.{after_body, bad_at, or_bad, head_of};
-ghost use Rattle.wf_steps.specs.Recovering.{IsFault, Reads, FromPlace, OfImage};
+ghost use Rattle.wf_steps.specs.Ends.{frame_size, end_of_history};
+ghost use Rattle.wf_steps.specs.Recovering.{IsFault, Reads, FromPlace, OfImage, EndsAt};
 ghost use Rattle.wf_steps.specs.declared.fault.RecoverFault.TheVariants as f;
 
 use crate::Replica;
@@ -47,6 +50,7 @@ fn are_own(part: &PartData, chart: &Name, unit: &Name) -> bool
 // Tests the names of a head.
 fn check_names(alloc: Global, part: &PartData, chart: Name, unit: Name) -> Result<(), RecoverFault>
     ensures reads { Reads (if bytes_eq chart part.now.chart && bytes_eq unit part.now.name then Ok (first_history part.now.unit.0) else Err (f.Foreign (record { chart = chart; unit = unit }) (record { chart = part.now.chart; unit = part.now.name }))) (first_history part.now.unit.0) result }
+    ensures own { OnOk result ((chart ≡ part.now.chart) × (unit ≡ part.now.name)) }
     ensures running { IsErrOf result RecoverFault.DiskFailed → ⊥ }
 {
     if are_own(part, &chart, &unit) {
@@ -72,6 +76,7 @@ fn check_head(alloc: Global, part: &PartData, at: u64, body: &[u8]) -> Result<()
     requires place { at ≡ header }
     requires some { 1 ≤ length body.now }
     ensures reads { Reads (head_of part.now body.now (record_of body.now)) (first_history part.now.unit.0) result }
+    ensures size { OnOk result (header + length body.now ≡ frame_size (Head 1 part.now.chart part.now.name)) }
     ensures running { IsErrOf result RecoverFault.DiskFailed → ⊥ }
 {
     match decode_record(alloc, body) {
@@ -93,6 +98,7 @@ fn read_record(
     requires { 1 ≤ length body.now }
     ensures part { replica.new.part ≡ replica.old.part }
     ensures reads { Reads (or_bad (bad_at at body.now) (after_body replica.old.part replica.old.past body.now) (λ h. Ok h)) replica.new.past result }
+    ensures grows { OnOk result (end_of_history replica.new.part replica.new.past ≡ end_of_history replica.old.part replica.old.past + (header + length body.now)) }
     ensures running { IsErrOf result RecoverFault.DiskFailed → ⊥ }
 {
     match take_body(alloc, replica, body) {
@@ -111,6 +117,8 @@ fn read_rest<D: Disk>(
 ) -> Result<(), RecoverFault>
     ensures part { replica.new.part ≡ replica.old.part }
     ensures reads { FromPlace (D.told journal.old.disk) replica.old.part place replica.old.past (λ wanted. Reads wanted replica.new.past result) }
+    ensures end { OnOk result (place ≡ end_of_history replica.old.part replica.old.past → (file : List ℕ) → (D.told journal.old.disk).image ≡ Some file → IsPlace file place →
+        end_of file ≡ end_of_history replica.new.part replica.new.past) }
     ensures same { IsSame (D.told journal.old.disk) (D.told journal.new.disk) }
     ensures kept { journal.new ≡ record journal.old { disk = journal.new.disk } }
     ensures down { IsErrOf result RecoverFault.DiskFailed → IsDown (D.told journal.old.disk) }
@@ -134,6 +142,7 @@ fn read_all<D: Disk>(
     requires { replica.old.past ≡ first_history replica.old.part.unit.0 }
     ensures part { replica.new.part ≡ replica.old.part }
     ensures reads { OfImage (D.told journal.old.disk) replica.old.part (λ wanted. Reads wanted replica.new.past result) }
+    ensures end { OnOk result (EndsAt (D.told journal.old.disk) replica.new.part replica.new.past) }
     ensures same { IsSame (D.told journal.old.disk) (D.told journal.new.disk) }
     ensures kept { journal.new ≡ record journal.old { disk = journal.new.disk } }
     ensures down { IsErrOf result RecoverFault.DiskFailed → IsDown (D.told journal.old.disk) }
@@ -159,6 +168,9 @@ pub fn recover<D: Disk>(
     // The history is the image's, and the fault is that of the first body that is wrong.
     ensures history { OfImage (D.told journal.old.disk) part (λ wanted. IfOk result (λ r. wanted ≡ Ok r.past)) }
     ensures fault { OfImage (D.told journal.old.disk) part (λ wanted. IfErr result (λ refused. IsFault wanted refused.fault)) }
+
+    // Behind its records stands the gate, if there are any.
+    ensures end { IfOk result (λ r. EndsAt (D.told journal.old.disk) r.part r.past) }
 
     // The part, and where the disk and the journal stay.
     ensures part { IfOk result (λ r. r.part ≡ part) }

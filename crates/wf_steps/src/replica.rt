@@ -11,9 +11,11 @@ ghost use Rattle.wf_worlds.specs.Admitting.{lets_in};
 ghost use Rattle.wf_worlds.specs.Growing.{admitted, turned};
 ghost use Rattle.wf_worlds.specs.Worlds.{first_history};
 ghost use Rattle.wf_steps.specs.Items.{own_acts, items_of, item_steps};
+ghost use Rattle.wf_steps.specs.Ends.{IsShort, longest_turn};
 ghost use Rattle.wf_steps.specs.Growing.{place_of, sealing, MayAdmit, MayTurn, IsMade};
 ghost use Rattle.wf_steps.specs.Replicas.{prepared_of, closed_by, MayClose};
 
+use crate::bodies::{outer_is_short, turn_is_short};
 use crate::preparing::{first_outers, listed_starts, with_own};
 use crate::rule::{is_own_act, lets_event, own_acts, wanted_by};
 use crate::{Admission, History, Prepared, TurnDone};
@@ -156,11 +158,13 @@ impl Replica {
         &self.view
     }
 
-    /// The unit's items, of which those are closed that an admission completes.
+    /// The unit's items, of which those are closed that an admission completes. There are fewer than 2^32.
     pub fn items(&self) -> &Items
         ensures items { result.now.items ≡ items_of self.now.part self.now.past }
         ensures steps { result.now.steps ≡ item_steps self.now.part self.now.past (taken self.now.past) }
+        ensures few { length result.now.items < 2 ^ 32 }
     {
+        let _part = self.part.data();
         &self.items
     }
 
@@ -245,13 +249,16 @@ impl Replica {
         Ok(())
     }
 
-    /// The record's body of an admission that may follow. It refuses only if memory runs out.
+    /// The record's body of an admission that may follow; the outer has at most 552 bytes in it. It refuses only if memory runs out.
     pub fn admit_body(&self, alloc: Global, request: u64, outer: &Outer) -> Result<Bytes, NoMemory>
         requires { MayAdmit self.now.part self.now.past (record { request = request; outer = outer.now }) }
-        ensures { IfOk result (IsBodyOf (Admit request outer.now)) }
+        ensures body { IfOk result (IsBodyOf (Admit request outer.now)) }
+        ensures short { IfOk result (λ _. IsShort outer.now) }
     {
         let _part = self.part.data();
-        encode_admit(alloc, request, outer)
+        let body = encode_admit(alloc, request, outer)?;
+        outer_is_short(body.as_slice(), request, outer);
+        Ok(body)
     }
 
     /// Admits what may follow. Takes no memory.
@@ -297,15 +304,19 @@ impl Replica {
         })
     }
 
-    /// The record's body of a Turn that was worked out. It refuses only if memory runs out.
+    /// The record's body of a Turn that was worked out, at most 612,424 bytes. It refuses only if memory runs out.
     pub fn turn_body(&self, alloc: Global, prepared: &Prepared) -> Result<Bytes, NoMemory>
         requires may { MayTurn self.now.part self.now.past prepared.now.done.inputs }
         requires prepared { prepared.now ≡ prepared_of self.now.part self.now.past prepared.now.done.inputs }
-        ensures { IfOk result (IsBodyOf (Turn (taken self.now.past + 1) prepared.now.done.inputs (sealing self.now.past))) }
+        ensures body { IfOk result (IsBodyOf (Turn (taken self.now.past + 1) prepared.now.done.inputs (sealing self.now.past))) }
+        ensures short { IfOk result (λ body. length body ≤ longest_turn) }
     {
         let _part = self.part.data();
         let done = &prepared.done;
-        encode_turn(alloc, done.step, done.inputs.as_slice(), done.sealed)
+        let inputs = done.inputs.as_slice();
+        let body = encode_turn(alloc, done.step, inputs, done.sealed)?;
+        turn_is_short(body.as_slice(), done.step, inputs, done.sealed);
+        Ok(body)
     }
 
     /// Room for a Turn. After `NoMemory` all is as before, with its room.
@@ -352,6 +363,14 @@ impl Replica {
         ensures { result ≡ self.part }
     {
         self.part
+    }
+
+    /// Gives part and history back.
+    pub fn close(self) -> (Part, History)
+        ensures part { result.0 ≡ self.part }
+        ensures past { result.1.past ≡ self.past }
+    {
+        (self.part, self.history)
     }
 }
 

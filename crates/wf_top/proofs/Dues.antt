@@ -1,5 +1,5 @@
 -- What is due, and that a run which writes it may end so.
-use Rattle.std.proofs.Common.{◌≡◌, ◌⊎◌, ◌≤◌, ◌<◌, ◌∙◌, ℕ, ◌++◌, Bool, if◌then◌else◌, List, true, false, nat_le, length, take, Option, Some, None, Result, Ok, Err, IfSome, refl, sym, ap, subst, inl, inr, arith, append-nil}
+use Rattle.std.proofs.Common.{◌≡◌, ◌⊎◌, ◌≤◌, ◌<◌, ◌∙◌, ℕ, ◌++◌, Bool, if◌then◌else◌, List, [], true, false, nat_le, length, take, Option, Some, None, Result, Ok, Err, IfSome, refl, sym, ap, subst, inl, inr, arith, append-nil}
 use Rattle.std.proofs.lemmas.Bool.Decides.{nat_tests}
 use Rattle.std.specs.Io.KnownBytes.{Appends, Consumes, IsAtEnd}
 use lib.Chars.{codes}
@@ -19,11 +19,19 @@ use Rattle.wf_audit.specs.CentralText.{central_text}
 use Rattle.wf_partition.specs.SplitText.{split_text}
 use Rattle.wf_scripts.proofs.Counted.{IsNamed}
 use Rattle.wf_audit.proofs.Scripts.{script_named}
+use Rattle.wf_machine.specs.declared.line.Line.{Line}
+use Rattle.wf_machine.specs.Machine.{first_machine}
+use Rattle.wf_machine.specs.Runs.{Outcomes}
+use Rattle.wf_play.specs.Script.{play_of}
+use Rattle.wf_world.specs.Sent.{passes}
 use Rattle.wf_top.specs.declared.command.Command.{Command}
-use Rattle.wf_top.specs.declared.command.Command.TheVariants.{Check, Central, Split}
+use Rattle.wf_top.specs.declared.command.Command.TheVariants.{Check, Central, Split, Play}
 use Rattle.wf_top.specs.declared.answer.Answer.{Answer}
-use Rattle.wf_top.specs.Answers.{answer, answer_of, answer_within, chart_answer, central_answer, lines_answer, run_answer, chart_in}
+use Rattle.wf_top.specs.Answers.{answer, answer_of, answer_within, chart_answer, central_answer, lines_answer, play_answer, play_lines_answer, run_of_play, run_answer, chart_in, MayGive}
+use Rattle.wf_top.specs.Plays.{play_text}
 use Rattle.wf_top.specs.Top.{Ends, Answers, IsDue, MayAnswer}
+use Rattle.wf_top.proofs.Fits.{play_named}
+use Rattle.wf_top.proofs.Plays.{no_outcomes}
 
 -- the text was written whole, or a write failed behind a front part
 abbrev pub IsFinished : Ends → Ends → Status → List ℕ → Status → Type 0
@@ -78,15 +86,35 @@ central_answered chart script =
     either_answered (nat_le (length (lines_of script)) max_lines) (lines_answer chart (script_of chart script)) (answer status.Limit too_many_lines)
     (lines_answered chart (script_of chart script) (script_named chart script)) tt
 
-chart_answered : (command : Command) (script : List ℕ) (found : Result Chart (List ℕ)) → IsAnswered (chart_answer command script found).status
-chart_answered command script (Err line) = tt
-chart_answered Check script (Ok chart) = tt
-chart_answered Central script (Ok chart) = central_answered chart script
-chart_answered Split script (Ok chart) = run_answered (split_text chart)
+play_run_answered : (chart : Chart) (outcomes : Outcomes) (lines : List (ℕ × Line)) → IsAnswered (run_of_play chart outcomes lines).status
+unfolding run_of_play
+play_run_answered chart outcomes lines =
+    either_answered (passes chart (first_machine chart) outcomes.at_lines lines) (answer status.Limit (refusal (codes "limit sent"))) (run_answer (play_text chart lines outcomes))
+    tt (run_answered (play_text chart lines outcomes))
 
-within_answered : (command : Command) (input : List ℕ) → IsAnswered (answer_within command input).status
+play_lines_answered : (chart : Chart) (outcomes : Outcomes) (found : Result (List (ℕ × Line)) ScriptFault) → IsNamed found
+    → IsAnswered (play_lines_answer chart outcomes found).status
+play_lines_answered chart outcomes (Ok lines) named = play_run_answered chart outcomes lines
+play_lines_answered chart outcomes (Err (script.Refused line)) named = tt
+play_lines_answered chart outcomes (Err script.NoMemory) named = absurd named
+
+play_answered : (chart : Chart) (outcomes : Outcomes) (script : List ℕ) → IsAnswered (play_answer chart outcomes script).status
+unfolding play_answer
+play_answered chart outcomes script =
+    either_answered (nat_le (length (lines_of script)) max_lines) (play_lines_answer chart outcomes (play_of chart script)) (answer status.Limit too_many_lines)
+    (play_lines_answered chart outcomes (play_of chart script) (play_named chart script)) tt
+
+chart_answered : (command : Command) (outcomes : Outcomes) (script : List ℕ) (found : Result Chart (List ℕ))
+    → IsAnswered (chart_answer command outcomes script found).status
+chart_answered command outcomes script (Err line) = tt
+chart_answered Check outcomes script (Ok chart) = tt
+chart_answered Central outcomes script (Ok chart) = central_answered chart script
+chart_answered Split outcomes script (Ok chart) = run_answered (split_text chart)
+chart_answered Play outcomes script (Ok chart) = play_answered chart outcomes script
+
+within_answered : (command : Command) (outcomes : Outcomes) (input : List ℕ) → IsAnswered (answer_within command outcomes input).status
 unfolding answer_within
-within_answered command input = chart_answered command (script_part input) (chart_in (chart_part input))
+within_answered command outcomes input = chart_answered command outcomes (script_part input) (chart_in (chart_part input))
 
 -- such an answer is due
 due_answer : (words : List (List ℕ)) (before after : Ends) (s : Status) (text : List ℕ) → IsAnswered s → Answers words before after (answer s text)
@@ -103,30 +131,31 @@ due_answer words before after status.Unbuilt text is a end = absurd is
 due_answer words before after status.DiskFault text is a end = absurd is
 due_answer words before after status.Journals text is a end = absurd is
 
-pub answer_due : (words : List (List ℕ)) (before after : Ends) (command : Command) (bytes : List ℕ) (s : Status) (text : List ℕ)
-    → answer s text ≡ answer_within command bytes → Answers words before after (answer s text) → IsAtEnd after.left → IsDue words before after s text
-answer_due words before after command bytes s text is a end =
-    due_answer words before after s text (subst (λ (x : Answer). IsAnswered x.status) (sym is) (within_answered command bytes)) a end
+pub answer_due : (words : List (List ℕ)) (before after : Ends) (command : Command) (outcomes : Outcomes) (bytes : List ℕ) (s : Status) (text : List ℕ)
+    → answer s text ≡ answer_within command outcomes bytes → Answers words before after (answer s text) → IsAtEnd after.left → IsDue words before after s text
+answer_due words before after command outcomes bytes s text is a end =
+    due_answer words before after s text (subst (λ (x : Answer). IsAnswered x.status) (sym is) (within_answered command outcomes bytes)) a end
 
 -- more bytes than may be
 pub long_answer : (command : Command) (left : Option (List ℕ)) → IfSome left (λ bytes. max_input < length bytes)
-    → IfSome left (λ input. answer_of command input ≡ answer status.Limit (refusal (codes "limit input")))
+    → IfSome left (λ input. MayGive command input (answer status.Limit (refusal (codes "limit input"))))
 unfolding answer_of
 long_answer command None h = tt
-long_answer command (Some input) h = let long : nat_le (length input) max_input ≡ false = grind (arith, nat_tests) in rw long refl
+long_answer command (Some input) h = let long : nat_le (length input) max_input ≡ false = grind (arith, nat_tests) in (no_outcomes, rw long refl)
 
-short_answer : (command : Command) (bytes : List ℕ) → length bytes ≤ max_input → answer_of command bytes ≡ answer_within command bytes
+short_answer : (command : Command) (outcomes : Outcomes) (bytes : List ℕ) → length bytes ≤ max_input → answer_of command outcomes bytes ≡ answer_within command outcomes bytes
 unfolding answer_of
-short_answer command bytes h = let short : nat_le (length bytes) max_input ≡ true = grind (arith, nat_tests) in rw short refl
+short_answer command outcomes bytes h = let short : nat_le (length bytes) max_input ≡ true = grind (arith, nat_tests) in rw short refl
 
-known_answer : (command : Command) (left after : Option (List ℕ)) (bytes : List ℕ) (a : Answer) → Consumes left after bytes → IsAtEnd after
-    → answer_of command bytes ≡ a → IfSome left (λ input. answer_of command input ≡ a)
-known_answer command None after bytes a taken end is = tt
-known_answer command (Some input) None bytes a taken end is = absurd taken
-known_answer command (Some input) (Some rest) bytes a taken end is =
-    ap (answer_of command) (taken ∙ ap (λ (l : List ℕ). bytes ++ l) end ∙ append-nil bytes) ∙ is
+known_answer : (command : Command) (outcomes : Outcomes) (left after : Option (List ℕ)) (bytes : List ℕ) (a : Answer) → Consumes left after bytes → IsAtEnd after
+    → answer_of command outcomes bytes ≡ a → IfSome left (λ input. MayGive command input a)
+known_answer command outcomes None after bytes a taken end is = tt
+known_answer command outcomes (Some input) None bytes a taken end is = absurd taken
+known_answer command outcomes (Some input) (Some rest) bytes a taken end is =
+    (outcomes, ap (answer_of command outcomes) (taken ∙ ap (λ (l : List ℕ). bytes ++ l) end ∙ append-nil bytes) ∙ is)
 
 -- the answer to all that was left
-pub read_answer : (command : Command) (left after : Option (List ℕ)) (bytes : List ℕ) (a : Answer) → Consumes left after bytes → IsAtEnd after
-    → length bytes ≤ max_input → a ≡ answer_within command bytes → IfSome left (λ input. answer_of command input ≡ a)
-read_answer command left after bytes a taken end within is = known_answer command left after bytes a taken end (short_answer command bytes within ∙ sym is)
+pub read_answer : (command : Command) (outcomes : Outcomes) (left after : Option (List ℕ)) (bytes : List ℕ) (a : Answer) → Consumes left after bytes → IsAtEnd after
+    → length bytes ≤ max_input → a ≡ answer_within command outcomes bytes → IfSome left (λ input. MayGive command input a)
+read_answer command outcomes left after bytes a taken end within is =
+    known_answer command outcomes left after bytes a taken end (short_answer command outcomes bytes within ∙ sym is)

@@ -1,2 +1,6 @@
 pub mod Parts
+pub mod Fits
+pub mod Plays
+pub mod Unarmed
 pub mod Dues
+pub mod Ends

@@ -1,5 +1,5 @@
 -- What the program has to answer: a status, and a text.
-use Rattle.std.specs.Prelude.{ℕ, Bool, ◌&&◌, List, [], ◌∷◌, nat_le, length, Option, Some, None, Result, Ok, Err, if◌then◌else◌}
+use Rattle.std.specs.Prelude.{◌≡◌, ℕ, Bool, ◌&&◌, List, [], ◌∷◌, nat_le, length, Option, Some, None, Result, Ok, Err, if◌then◌else◌}
 use Rattle.std.specs.List.{list_all}
 use Rattle.std.specs.Str.{bytes_eq}
 use lib.Chars.{codes}
@@ -18,6 +18,11 @@ use Rattle.wf_refusals.specs.TextFaults.{text_fault_line}
 use Rattle.wf_refusals.specs.CheckFaults.{check_fault_line}
 use Rattle.wf_refusals.specs.Accepted.{accepted_line}
 use Rattle.wf_refusals.specs.Scripts.{script_line, too_many_lines, too_long_report}
+use Rattle.wf_machine.specs.declared.line.Line.{Line}
+use Rattle.wf_machine.specs.Machine.{first_machine}
+use Rattle.wf_machine.specs.Runs.{Outcomes}
+use Rattle.wf_play.specs.Script.{play_of}
+use Rattle.wf_world.specs.Sent.{passes}
 use Rattle.wf_audit.specs.declared.script.CentralLine.{CentralLine}
 use Rattle.wf_scripts.specs.declared.script.ScriptFault.{ScriptFault}
 use Rattle.wf_scripts.specs.declared.script.ScriptFault.TheVariants as script
@@ -26,15 +31,17 @@ use Rattle.wf_audit.specs.Script.{script_of}
 use Rattle.wf_audit.specs.CentralText.{central_text}
 use Rattle.wf_partition.specs.SplitText.{split_text}
 use Rattle.wf_top.specs.declared.command.Command.{Command}
-use Rattle.wf_top.specs.declared.command.Command.TheVariants.{Check, Central, Split}
+use Rattle.wf_top.specs.declared.command.Command.TheVariants.{Check, Central, Split, Play}
 use Rattle.wf_top.specs.declared.answer.Answer.{Answer}
+use Rattle.wf_top.specs.Plays.{play_text}
 
 -- ---- words
 
 abbrev pub command_named : List ℕ → Option Command
 command_named word =
     if bytes_eq word (codes "check") then Some Check
-    else (if bytes_eq word (codes "central") then Some Central else (if bytes_eq word (codes "split") then Some Split else None))
+    else (if bytes_eq word (codes "central") then Some Central
+    else (if bytes_eq word (codes "split") then Some Split else (if bytes_eq word (codes "play") then Some Play else None)))
 
 -- the command that the words name: one word, and no other
 abbrev pub command_of : List (List ℕ) → Option Command
@@ -91,17 +98,48 @@ unfoldable pub central_answer : Chart → List ℕ → Answer
 central_answer chart script =
     if nat_le (length (lines_of script)) max_lines then lines_answer chart (script_of chart script) else answer status.Limit too_many_lines
 
-abbrev pub chart_answer : Command → List ℕ → Result Chart (List ℕ) → Answer
-chart_answer command script (Err line) = answer status.ChartRefused line
-chart_answer Check script (Ok chart) = answer status.Ok (accepted_line chart)
-chart_answer Central script (Ok chart) = central_answer chart script
-chart_answer Split script (Ok chart) = run_answer (split_text chart)
+-- ---- plays
+
+-- the play of a script's lines, where its doubts turn out so, unless its messages come to too many bytes after one of them
+unfoldable pub run_of_play : Chart → Outcomes → List (ℕ × Line) → Answer
+run_of_play chart outcomes lines =
+    if passes chart (first_machine chart) outcomes.at_lines lines
+    then answer status.Limit (refusal (codes "limit sent"))
+    else run_answer (play_text chart lines outcomes)
+
+-- the same, or the first line outside the grammar; for want of memory there is none
+abbrev pub play_lines_answer : Chart → Outcomes → Result (List (ℕ × Line)) ScriptFault → Answer
+play_lines_answer chart outcomes (Ok lines) = run_of_play chart outcomes lines
+play_lines_answer chart outcomes (Err (script.Refused line)) = answer status.ScriptRefused (script_line line)
+play_lines_answer chart outcomes (Err script.NoMemory) = answer status.NoMemory []
+
+-- the answer to a play's script, unless it has too many lines
+unfoldable pub play_answer : Chart → Outcomes → List ℕ → Answer
+play_answer chart outcomes script =
+    if nat_le (length (lines_of script)) max_lines
+    then play_lines_answer chart outcomes (play_of chart script)
+    else answer status.Limit too_many_lines
+
+-- ---- commands
+
+-- what a command answers, where the doubts of a play turn out so
+abbrev pub chart_answer : Command → Outcomes → List ℕ → Result Chart (List ℕ) → Answer
+chart_answer command outcomes script (Err line) = answer status.ChartRefused line
+chart_answer Check outcomes script (Ok chart) = answer status.Ok (accepted_line chart)
+chart_answer Central outcomes script (Ok chart) = central_answer chart script
+chart_answer Split outcomes script (Ok chart) = run_answer (split_text chart)
+chart_answer Play outcomes script (Ok chart) = play_answer chart outcomes script
 
 -- the answer to an input that isn't too long: its chart, then what the command does with it
-unfoldable pub answer_within : Command → List ℕ → Answer
-answer_within command input = chart_answer command (script_part input) (chart_in (chart_part input))
+unfoldable pub answer_within : Command → Outcomes → List ℕ → Answer
+answer_within command outcomes input = chart_answer command outcomes (script_part input) (chart_in (chart_part input))
 
 -- the answer of a command to an input
-unfoldable pub answer_of : Command → List ℕ → Answer
-answer_of command input =
-    if nat_le (length input) max_input then answer_within command input else answer status.Limit (refusal (codes "limit input"))
+unfoldable pub answer_of : Command → Outcomes → List ℕ → Answer
+answer_of command outcomes input =
+    if nat_le (length input) max_input then answer_within command outcomes input else answer status.Limit (refusal (codes "limit input"))
+
+-- A command may give this answer to an input. The outcome of a doubt is free, and only a play has doubts: status and text are
+-- those of one choice of outcomes.
+abbrev pub MayGive : Command → List ℕ → Answer → Type 0
+MayGive command input a = (outcomes : Outcomes) × (answer_of command outcomes input ≡ a)

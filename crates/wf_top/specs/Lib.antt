@@ -1,2 +1,4 @@
+pub mod Plays
 pub mod Answers
+pub mod Laws
 pub mod Top

@@ -9,7 +9,7 @@ use Rattle.wf_refusals.specs.Lines.{refusal}
 use Rattle.wf_top.specs.declared.command.Command.{Command}
 use Rattle.wf_top.specs.declared.answer.Answer.{Answer}
 use Rattle.wf_gen.specs.GenText.{gen_text}
-use Rattle.wf_top.specs.Answers.{answer, answer_of, command_of, gen_number}
+use Rattle.wf_top.specs.Answers.{answer, MayGive, command_of, gen_number}
 
 -- source and sink at one moment: the bytes that the source has left and those that the sink holds, where they tell, and how
 -- often each has failed
@@ -24,12 +24,12 @@ pub record IsUnread (before after : Ends) : Type 0 where
   pub left : after.left ≡ before.left
   pub faults : after.read_faults ≡ before.read_faults
 
--- the words name a command, no read failed, and this is the command's answer to the bytes that the source had left
+-- the words name a command, no read failed, and the command may give this answer to the bytes that the source had left
 pub record Answers (words : List (List ℕ)) (before after : Ends) (a : Answer) : Type 0 where
   pub command : Command
   pub named : command_of words ≡ Some command
   pub faults : after.read_faults ≡ before.read_faults
-  pub answer : IfSome before.left (λ input. answer_of command input ≡ a)
+  pub answer : IfSome before.left (λ input. MayGive command input a)
 
 -- the words name a number, the text is the input that is generated from it, and nothing was read
 pub record IsGenerated (words : List (List ℕ)) (before after : Ends) (text : List ℕ) : Type 0 where
@@ -66,7 +66,7 @@ pub record IsWritten (words : List (List ℕ)) (before after : Ends) (s : Status
   pub written : Appends before.held after.held text
   pub faults : after.write_faults ≡ before.write_faults
 
--- a write failed, and a front part of what is due was written
+-- a write failed, and a prefix of what is due was written
 pub record IsBroken (words : List (List ℕ)) (before after : Ends) : Type 0 where
   pub wanted : Status
   pub text : List ℕ

@@ -1,12 +1,14 @@
 //! What a command answers.
 ghost use Rattle.std.specs.Prelude.{◌≡◌, ◌≤◌, length, IfOk};
 ghost use Rattle.wf_model.specs.Limits.{max_input};
+ghost use Rattle.wf_machine.specs.Runs.{Outcomes};
 ghost use Rattle.wf_refusals.specs.Accepted.{accepted_line};
 ghost use Rattle.wf_top.specs.Answers as spec;
 
 use crate::central::central;
 use crate::charts::chart_in;
 use crate::command::Command;
+use crate::play::play;
 use crate::split::split;
 use std::alloc::Global;
 use wf_model::{Bytes, Checked, NoMemory, Status};
@@ -29,25 +31,39 @@ impl Answer {
     }
 }
 
-fn accepted(alloc: Global, chart: &Checked) -> Result<Answer, NoMemory>
+fn check_answer(alloc: Global, chart: &Checked) -> Result<Answer, NoMemory>
     ensures { IfOk result (λ a. a ≡ spec.answer Status.Ok (accepted_line chart.now)) }
 {
     Ok(Answer::new(Status::Ok, accepted_line(alloc, chart.chart())?))
 }
 
-/// The answer of a command to an input.
+// The answer of a command to an accepted chart and a script.
+fn chart_answer(
+    alloc: Global,
+    command: Command,
+    chart: Checked,
+    script: &[u8],
+) -> Result<Answer, NoMemory>
+    requires { length script.now ≤ max_input }
+    ensures { IfOk result (λ a. (outcomes : Outcomes) × (a ≡ spec.chart_answer command outcomes script.now (Ok chart))) }
+{
+    match command {
+        Command::Check => check_answer(alloc, &chart),
+        Command::Central => central(alloc, &chart, script),
+        Command::Split => split(alloc, &chart),
+        Command::Play => play(alloc, chart, script),
+    }
+}
+
+/// An answer of a command to an input, where the doubts of a play turn out in some way.
 #[tactic(auto, unfolding(crate::specs::Answers::answer_within))]
 pub fn answer_to(alloc: Global, command: Command, input: &[u8]) -> Result<Answer, NoMemory>
     requires { length input.now ≤ max_input }
-    ensures { IfOk result (λ a. a ≡ spec.answer_within command input.now) }
+    ensures { IfOk result (λ a. (outcomes : Outcomes) × (a ≡ spec.answer_within command outcomes input.now)) }
 {
     let parts = divide(input);
     match chart_in(alloc, parts.chart)? {
         Err(text) => Ok(Answer::new(Status::ChartRefused, text)),
-        Ok(chart) => match command {
-            Command::Check => accepted(alloc, &chart),
-            Command::Central => central(alloc, &chart, parts.script),
-            Command::Split => split(alloc, &chart),
-        },
+        Ok(chart) => chart_answer(alloc, command, chart, parts.script),
     }
 }

@@ -12,7 +12,7 @@ use wf_text::{ChartFault, read_chart};
 
 // The chart, sealed, or the line of its first fault.
 #[tactic(auto, unfolding(wf_check::specs::Judged::judged_of))]
-fn checked(alloc: Global, chart: Chart) -> Result<Result<Checked, Bytes>, NoMemory>
+fn chart_by(alloc: Global, chart: Chart) -> Result<Result<Checked, Bytes>, NoMemory>
     ensures { IfOk result (λ found. found ≡ spec.chart_by chart (first_fault chart)) }
 {
     match judge(alloc, chart)? {
@@ -29,7 +29,7 @@ pub fn chart_in(alloc: Global, text: &[u8]) -> Result<Result<Checked, Bytes>, No
     ensures { IfOk result (λ found. found ≡ spec.chart_in text.now) }
 {
     match read_chart(alloc, text) {
-        Ok(chart) => checked(alloc, chart),
+        Ok(chart) => chart_by(alloc, chart),
         Err(ChartFault::NoMemory) => Err(NoMemory),
         Err(fault) => Ok(Err(text_fault_line(alloc, fault)?)),
     }

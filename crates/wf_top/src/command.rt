@@ -16,6 +16,8 @@ pub enum Command {
     Central,
     /// Cut the chart of the input into the parts of its units.
     Split,
+    /// Run the script of the input on the servers of the chart's units.
+    Play,
 }
 
 fn command_named(word: &[u8]) -> Option<Command>
@@ -27,6 +29,8 @@ fn command_named(word: &[u8]) -> Option<Command>
         Some(Command::Central)
     } else if word == b"split".as_slice() {
         Some(Command::Split)
+    } else if word == b"play".as_slice() {
+        Some(Command::Play)
     } else {
         None
     }

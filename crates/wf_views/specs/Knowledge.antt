@@ -1,4 +1,4 @@
--- Of other calls. Which numbers are known, and entries cut to them.
+-- Which numbers are known, and entries cut to them.
 use Rattle.std.specs.Prelude.{ℕ, ◌==◌, ◌||◌, Bool, List, filter, filter_map, option_map, Option, Some, None, if◌then◌else◌}
 use Rattle.std.specs.List.{list_any}
 use Rattle.wf_model.specs.declared.outer.Outer.{Outer}

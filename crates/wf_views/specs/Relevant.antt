@@ -1,4 +1,4 @@
--- Of other calls. What of an update a peer is sent.
+-- What of an update a peer is sent.
 use Rattle.std.specs.Prelude.{ℕ, ◌==◌, ◌&&◌, Bool, false, List, [], filter, filter_map, find}
 use Rattle.std.specs.Option.{option_map_or}
 use Rattle.std.specs.List.{list_any, list_all}

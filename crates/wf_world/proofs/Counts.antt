@@ -1,5 +1,5 @@
 -- What the machine of sound units shows, lets in and sends is what each unit's part and history make of it.
-use Rattle.std.proofs.Common.{◌≡◌, ℕ, zero, suc, ◌+◌, ◌<◌, ◌≤◌, List, [], ◌∷◌, map, length, slice_get, unwrap_or, Option, Some, option_map, refl, sym, ap, ◌∙◌, arith}
+use Rattle.std.proofs.Common.{◌≡◌, ◌≢◌, ℕ, zero, suc, ◌+◌, ◌<◌, ◌≤◌, List, [], ◌∷◌, map, length, slice_get, unwrap_or, Option, Some, option_map, refl, sym, ap, ◌∙◌, subst, arith}
 use Rattle.std.proofs.lemmas.List.{length-map}
 use Rattle.std.proofs.lemmas.Option.{slice_get-map}
 use Rattle.wf_model.specs.declared.outer.Outer.{Outer}
@@ -7,6 +7,7 @@ use Rattle.wf_model.specs.declared.chart.Chart.{Chart}
 use Rattle.wf_model.specs.Accepted.{IsAccepted}
 use Rattle.wf_parts.specs.Parts.{part_of}
 use Rattle.wf_parts.specs.Peers.{peers_of}
+use Rattle.wf_codec.specs.Ranges.{IsUpdate}
 use Rattle.wf_codec.specs.Spelling.{spelling_of}
 use Rattle.wf_views.specs.Relevant.{relevant}
 use Rattle.wf_machine.specs.Server.{Server, new_server, taken as steps}
@@ -16,14 +17,16 @@ use Rattle.wf_machine.specs.Lines.{lets}
 use Rattle.wf_histories.specs.Histories.{Admission, History, taken, local_update}
 use Rattle.wf_histories.specs.Laws.{AreLean}
 use Rattle.wf_worlds.specs.Admitting.{lets_in}
+use Rattle.wf_worlds.specs.Worlds.{letter}
 use Rattle.wf_bridge.specs.Bridging.{in_history, CountsOf, node_sight, node_items}
 use Rattle.wf_bridge.proofs.Bridging.{lets_same, sight_same, items_same}
 use Rattle.wf_bridge.proofs.Placing.{letter_cut}
 use Rattle.wf_world.specs.declared.mail.Sent.{Sent}
-use Rattle.wf_world.specs.Sent.{bytes_of}
-use Rattle.wf_world.specs.Mail.{IsLetter}
-use Rattle.wf_world.specs.Units.{UnitState, counted, server_of, machine_of}
-use Rattle.wf_world.specs.Sounds.{new_unit, unit_at, hist_of, IsSound}
+use Rattle.wf_world.specs.Sent.{brought}
+use Rattle.wf_world.specs.Mail.{message_of, IsLetter}
+use Rattle.wf_slot.specs.Units.{UnitState, counted, server_of, new_unit}
+use Rattle.wf_world.specs.Machines.{machine_of}
+use Rattle.wf_world.specs.Sounds.{unit_at, hist_of, IsSound}
 use Rattle.wf_world.proofs.Sounds.{are_lean}
 
 -- a unit that is there
@@ -76,22 +79,32 @@ module _ (chart : Chart) (ok : IsAccepted chart) (units : List UnitState) (messa
     pub items_is : items_of chart m u ≡ node_items (part_of chart u) (h u)
     items_is = items_same chart m h u lean_here counts lt
 
-    taken_is : steps (server m u) ≡ taken (h u)
+    pub taken_is : steps (server m u) ≡ taken (h u)
     taken_is = ap (λ (x : Server). steps x) (server_at units messages u (in_units u lt))
 
-    -- the bytes of what it sends of a step taken or the next one: those of its own update, cut by what its part keeps of its peers
-    pub bytes_is : (v j : ℕ) → 1 ≤ j → j ≤ taken (h u) + 1 → bytes_of chart m (record { sender = u; receiver = v; step = j }) ≡ spelling_of (relevant (part_of chart u).peers (local_update (part_of chart u) (h u) j) v)
+    -- what it sends of a step taken or the next one: its own update, cut by what its part keeps of its peers
+    pub brought_is : (v j : ℕ) → 1 ≤ j → j ≤ taken (h u) + 1 → brought chart m (record { sender = u; receiver = v; step = j }) ≡ relevant (part_of chart u).peers (local_update (part_of chart u) (h u) j) v
     unfolding part_of peers_of
-    bytes_is v zero some near = absurd (omega (arith, some))
-    bytes_is v (suc j) some near = ap spelling_of (sym (letter_cut chart m h u v j lean_here counts (omega (arith, lt)) (omega (arith, near))))
+    brought_is v zero some near = absurd (omega (arith, some))
+    brought_is v (suc j) some near = sym (letter_cut chart m h u v j lean_here counts (omega (arith, lt)) (omega (arith, near)))
 
     -- so such a message is a letter
-    pub letter_is : (x : Sent) → x.sender.0 ≡ u → 1 ≤ x.step → x.step ≤ taken (h u) + 1 → x.bytes ≡ spelling_of (relevant (part_of chart u).peers (local_update (part_of chart u) (h u) x.step) x.receiver.0) → IsLetter chart m x
-    letter_is x from some near bytes =
+    pub letter_is : (x : Sent) → x.sender.0 ≡ u → x.receiver.0 < length chart.units → u ≢ x.receiver.0 → 1 ≤ x.step → x.step ≤ taken (h u) + 1 →
+        x.bytes ≡ spelling_of (relevant (part_of chart u).peers (local_update (part_of chart u) (h u) x.step) x.receiver.0) → IsUpdate (relevant (part_of chart u).peers (local_update (part_of chart u) (h u) x.step) x.receiver.0) →
+        IsLetter chart m x
+    letter_is x from to other some near bytes whole =
         let units_is = counts.units in
         let at = taken_is in
         let here : steps (server m x.sender.0) ≡ steps (server m u) = ap (λ (w : ℕ). steps (server m w)) from in
+        let is : relevant (part_of chart u).peers (local_update (part_of chart u) (h u) x.step) x.receiver.0 ≡ brought chart m (message_of x) =
+        sym (brought_is x.receiver.0 x.step some near) ∙ ap (λ (w : ℕ). brought chart m (record { sender = w; receiver = x.receiver.0; step = x.step })) (sym from) in
         record {
-          made = record { sender = omega (arith, lt, from, units_is); step = omega (arith, here, at, near) };
-          bytes = bytes ∙ sym (bytes_is x.receiver.0 x.step some near) ∙ ap (λ (w : ℕ). bytes_of chart m (record { sender = w; receiver = x.receiver.0; step = x.step })) (sym from);
+          made = record { sender = omega (arith, lt, from, units_is); receiver = omega (arith, to, units_is); other = λ same. other (sym from ∙ same); first = some; step = omega (arith, here, at, near) };
+          bytes = bytes ∙ ap spelling_of is;
+          whole = subst IsUpdate is whole;
         }
+
+    -- and what it sends is what a peer is sent of it
+    pub brought_letter : (v j : ℕ) → 1 ≤ j → j ≤ taken (h u) + 1 → brought chart m (record { sender = u; receiver = v; step = j }) ≡ letter chart h u v j
+    brought_letter v zero some near = absurd (omega (arith, some))
+    brought_letter v (suc j) some near = sym (letter_cut chart m h u v j lean_here counts (omega (arith, lt)) (omega (arith, near)))

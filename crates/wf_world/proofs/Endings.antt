@@ -1,29 +1,13 @@
 -- What an end does to the units of a world is what it does to the machine that counts for them.
-use Rattle.std.proofs.Common.{◌≡◌, ◌≢◌, ℕ, suc, ◌+◌, Bool, true, List, [], ◌∷◌, ◌++◌, map, length, slice_get, Option, Some, None, refl, sym, ap, ap₂, ◌∙◌, arith, append_assoc}
+use Rattle.std.proofs.Common.{◌≡◌, ℕ, suc, ◌+◌, Bool, true, List, [], ◌∷◌, ◌++◌, map, length, slice_get, Some, refl, sym, ap, ap₂, ◌∙◌, arith, append_assoc}
 use Rattle.std.proofs.lemmas.List.{length-map, append-nil}
 use Rattle.wf_model.specs.declared.ids.UnitId.{UnitId}
-use Rattle.wf_machine.specs.Bars.{Bar}
-use Rattle.wf_machine.specs.Server.{Health, Works, Failed, IsDown, Server, recovered}
-use Rattle.wf_machine.specs.Runs.{is_lost, at_end_by, at_end, all_at_end, closed, recovery_of, recoveries}
+use Rattle.wf_machine.specs.Server.{Server}
+use Rattle.wf_machine.specs.Runs.{is_lost, at_end, all_at_end, closed, recovery_of, recoveries}
 use Rattle.wf_histories.specs.Histories.{taken}
 use Rattle.wf_world.specs.declared.mail.Sent.{Sent}
-use Rattle.wf_world.specs.Units.{UnitState, counted, server_of, machine_of}
-
--- ONE UNIT
-
--- one that works loses its arm
-pub works_on : (stands : Bool) (unit : UnitState) → unit.health ≡ Works → at_end stands (server_of unit) ≡ server_of (record unit { fuse = None })
-works_on stands unit works = ap (λ (h : Health). at_end_by (is_lost h) stands (server_of unit)) works
-
-lost_by : (h : Health) → h ≢ Works → is_lost h ≡ true
-lost_by Works lost = absurd (lost refl)
-lost_by Failed lost = refl
-lost_by IsDown lost = refl
-
--- another one is recovered without it
-pub is_recovered : (stands : Bool) (unit next : UnitState) (bar : Option Bar) → unit.health ≢ Works → recovered stands (server_of (record unit { fuse = None })) ≡ (bar, server_of next) → at_end stands (server_of unit) ≡ server_of next
-is_recovered stands unit next bar lost e =
-    ap (λ (b : Bool). at_end_by b stands (server_of unit)) (lost_by unit.health lost) ∙ ap (λ (did : Option Bar × Server). did.1) e
+use Rattle.wf_slot.specs.Units.{UnitState, counted, server_of}
+use Rattle.wf_world.specs.Machines.{machine_of}
 
 -- ALL UNITS
 

@@ -11,7 +11,7 @@ use Rattle.wf_views.specs.Relevant.{cut_update}
 use Rattle.wf_histories.specs.Histories.{History, taken}
 use Rattle.wf_histories.specs.Agreement.{peers}
 use Rattle.wf_worlds.specs.Worlds.{Turns, letter, IsMade, MayStand}
-use Rattle.wf_world.specs.Units.{UnitState}
+use Rattle.wf_slot.specs.Units.{UnitState}
 use Rattle.wf_world.specs.Sounds.{unit_at, hist_of, IsSound}
 
 -- WHAT CAME, IN UNIT ORDER

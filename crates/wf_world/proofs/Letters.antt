@@ -1,11 +1,12 @@
 -- The bytes of messages stay as they were sent, and the machine counts as many as there are.
-use Rattle.std.proofs.Common.{◌≡◌, ℕ, ◌+◌, ◌<◌, ◌≤◌, true, false, List, [], ◌∷◌, ◌++◌, map, length, refl, sym, ap, ap₂, ◌∙◌, arith, rules}
+use Rattle.std.proofs.Common.{◌≡◌, ℕ, ◌+◌, ◌<◌, ◌≤◌, true, false, List, [], ◌∷◌, ◌++◌, map, length, refl, sym, ap, ap₂, ◌∙◌, subst, arith, rules}
 use Rattle.std.specs.List.{sum_by, AllByRecursion}
 use Rattle.std.proofs.lemmas.List.{length-append}
 use Rattle.std.proofs.lemmas.List.Sums.{sum_by-cons, sum_by-append, sum_by_push}
 use Rattle.wf_model.specs.Limits.{max_sent}
 use Rattle.wf_model.specs.declared.chart.Chart.{Chart}
 use Rattle.wf_model.specs.declared.update.Update.{Update}
+use Rattle.wf_codec.specs.Ranges.{IsUpdate}
 use Rattle.wf_codec.specs.Spelling.{spelling_of}
 use Rattle.wf_parts.specs.Peers.{peers_of}
 use Rattle.wf_views.specs.Relevant.{relevant}
@@ -14,24 +15,31 @@ use Rattle.wf_machine.specs.Machine.{CountingMachine, Message, server}
 use Rattle.wf_machine.specs.Account.{IsAccount, MachineGrows}
 use Rattle.wf_machine.proofs.Stays.{update_on}
 use Rattle.wf_world.specs.declared.mail.Sent.{Sent}
-use Rattle.wf_world.specs.Sent.{bytes_of, sent_bytes, is_over}
+use Rattle.wf_world.specs.Sent.{brought, bytes_of, sent_bytes, is_over}
 use Rattle.wf_world.specs.Mail.{bytes_in, message_of, IsMade, IsLetter, AreLetters}
 
 -- THE BYTES STAY while the machine grows
 
 module _ (m after : CountingMachine) (grows : MachineGrows m after) (account : IsAccount m) (chart : Chart) where
+  brought_on : (x : Message) → IsMade m x → brought chart after x ≡ brought chart m x
+  brought_on x made = ap (λ (update : Update). relevant (peers_of chart x.sender) update x.receiver) (update_on m after grows account chart x.sender x.step made.sender made.step)
+
   bytes_on : (x : Message) → IsMade m x → bytes_of chart after x ≡ bytes_of chart m x
-  bytes_on x made = ap (λ (update : Update). spelling_of (relevant (peers_of chart x.sender) update x.receiver)) (update_on m after grows account chart x.sender x.step made.sender made.step)
+  bytes_on x made = ap spelling_of (brought_on x made)
 
   made_on : (x : Message) → IsMade m x → IsMade after x
   made_on x made =
       let units = grows.units in
       let more : taken (server after x.sender) ≡ taken (server m x.sender) + length (grows.each x.sender).later =
       ap (λ (xs : List ℕ). length xs) (grows.each x.sender).sealed ∙ length-append (server m x.sender).sealed (grows.each x.sender).later in
-      record { sender = omega (arith, made.sender, units); step = omega (arith, made.step, more) }
+      record { sender = omega (arith, made.sender, units); receiver = omega (arith, made.receiver, units); other = made.other; first = made.first; step = omega (arith, made.step, more) }
 
   letter_on : (x : Sent) → IsLetter chart m x → IsLetter chart after x
-  letter_on x is = record { made = made_on (message_of x) is.made; bytes = is.bytes ∙ sym (bytes_on (message_of x) is.made) }
+  letter_on x is = record {
+    made = made_on (message_of x) is.made;
+    bytes = is.bytes ∙ sym (bytes_on (message_of x) is.made);
+    whole = subst IsUpdate (sym (brought_on (message_of x) is.made)) is.whole;
+  }
 
   pub letters_on : (messages : List Sent) → AreLetters chart m messages → AreLetters chart after messages
   letters_on [] are = tt

@@ -1,38 +1,33 @@
 -- What a line does to the units of a world is what it does to the machine that counts for them.
-use Rattle.std.proofs.Common.{◌≡◌, ◌≢◌, ℕ, zero, suc, ◌+◌, ◌<◌, ◌≤◌, ◌==◌, ◌&&◌, ◌||◌, nat_le, min, not, Bool, true, false, cond, List, [], ◌∷◌, ◌++◌, map, filter, length, slice_get, slice_set, Option, Some, None, is_some, option_map, Result, Ok, Err, refl, sym, ap, ap₂, ◌∙◌, rules}
+use Rattle.std.proofs.Common.{◌≡◌, ◌≢◌, ℕ, zero, suc, ◌+◌, ◌<◌, ◌≤◌, ◌==◌, ◌&&◌, ◌||◌, nat_le, not, Bool, true, false, cond, List, ◌++◌, map, filter, length, slice_get, slice_set, Option, Some, None, is_some, option_map, refl, sym, ap, ap₂, ◌∙◌, rules}
 use Rattle.std.specs.List.{range_with_len}
 use Rattle.std.proofs.lemmas.Bool.{cond-true, cond-false}
 use Rattle.std.proofs.lemmas.List.{map-append, length-map}
 use Rattle.std.proofs.lemmas.Option.{slice_get-map}
-use Rattle.wf_model.specs.Limits.{max_sealed}
 use Rattle.wf_model.specs.declared.ids.UnitId.{UnitId}
 use Rattle.wf_model.specs.declared.outer.Outer.{Outer}
-use Rattle.wf_model.specs.declared.outer.OuterFault.{OuterFault}
 use Rattle.wf_model.specs.declared.chart.Chart.{Chart}
 use Rattle.wf_model.specs.declared.update.Update.{Update}
 use Rattle.wf_disk.specs.declared.arm.Arm.{Arm}
 use Rattle.wf_disk.specs.declared.arm.Outcome.{Outcome}
-use Rattle.wf_machine.specs.declared.admission.Admission as of
 use Rattle.wf_machine.specs.declared.line.Line.TheVariants as line
 use Rattle.wf_machine.specs.declared.reply.Reply.{Reply}
 use Rattle.wf_machine.specs.declared.reply.Reply.TheVariants as reply
 use Rattle.wf_machine.specs.declared.reply.TurnReply.{TurnReply}
-use Rattle.wf_machine.specs.declared.reply.TurnReply.TheVariants as turn
-use Rattle.wf_machine.specs.Strokes.{Fuse, Done, SetOff, strokes}
-use Rattle.wf_machine.specs.Bars.{Bar, bar_of, barred, turn_barred}
-use Rattle.wf_machine.specs.Server.{Health, Works, Failed, IsDown, Record, Admits, Turns, Server, taken as steps, later_than, fallen, written, recovered}
+use Rattle.wf_machine.specs.Bars.{Bar}
+use Rattle.wf_machine.specs.Server.{Health, Works, Failed, IsDown, Server, taken as steps, recovered}
 use Rattle.wf_machine.specs.Machine.{CountingMachine, Message, server, with_server, message_at}
 use Rattle.wf_machine.specs.Sights.{sight_of, items_of}
-use Rattle.wf_machine.specs.Lines.{Acted, done_at, bar_at, unless, turn_unless, same_outer, asked, lets, admit_by, admit, missing, unit_set, turn_by, turned as turn_of, crash_by, armed, counts_of, recover_by, show_by, letters, second_of, posted, send_by, send, with_came, received, come_by, deliver_by, deliver, act}
-use Rattle.wf_histories.specs.Histories.{Admission, taken}
-use Rattle.wf_worlds.specs.Growing.{unsealed, admitted, turned}
+use Rattle.wf_machine.specs.Lines.{Acted, done_at, bar_at, unless, asked, lets, admit_by, admit, missing, turn_by, turned as turn_of, crash_by, armed, counts_of, recover_by, show_by, letters, second_of, posted, send_by, send, with_came, received, come_by, deliver_by, deliver, act}
+use Rattle.wf_histories.specs.Histories.{taken}
 use Rattle.wf_world.specs.declared.mail.Sent.{Sent}
 use Rattle.wf_world.specs.Mail.{message_of, sent_at}
-use Rattle.wf_world.specs.Units.{UnitState, counted, server_of, down, struck, machine_of}
-use Rattle.wf_world.proofs.Requests.{outer_Decides}
-use Rattle.wf_world.proofs.Units.{admitted_is, turned_is, next_is, wrote, broke, server_is, with_is, came_is}
+use Rattle.wf_slot.specs.Units.{UnitState, counted, server_of}
+use Rattle.wf_world.specs.Machines.{machine_of}
+use Rattle.wf_slot.proofs.Units.{came_is}
+use Rattle.wf_world.proofs.Machines.{server_is, with_is}
 
-abbrev acted : Reply → CountingMachine → Acted
+abbrev pub acted : Reply → CountingMachine → Acted
 acted r after = record { reply = r; after = after }
 
 -- A LINE THAT CHANGES ONE UNIT
@@ -51,20 +46,9 @@ module _ (chart : Chart) (units : List UnitState) (messages : List Sent) (u : Un
   done did r next e = ap (done_at m u.0) e ∙ ap (acted r) (with_is units messages u.0 next)
 
   -- crash
-  falls : (h : Health) (s : Server) → h ≢ IsDown → crash_by h s ≡ (reply.Crashed, fallen s)
-  falls Works s up = refl
-  falls Failed s up = refl
-  falls IsDown s up = absurd (up refl)
-
-  pub crash_up : (stands : Bool) (outcome : Outcome) → unit.health ≢ IsDown → act chart m stands (line.Crash u outcome) ≡ acted reply.Crashed (with_unit (down unit))
+  pub crash_is : (stands : Bool) (outcome : Outcome) (r : Reply) (next : UnitState) → crash_by unit.health (server_of unit) ≡ (r, server_of next) → act chart m stands (line.Crash u outcome) ≡ acted r (with_unit next)
   unfolding act
-  crash_up stands outcome up =
-      done (crash_by (server m u.0).health (server m u.0)) reply.Crashed (down unit) (ap (λ (s : Server). crash_by s.health s) here ∙ falls unit.health (server_of unit) up)
-
-  pub crash_down : (stands : Bool) (outcome : Outcome) → unit.health ≡ IsDown → act chart m stands (line.Crash u outcome) ≡ acted reply.Down (with_unit unit)
-  unfolding act
-  crash_down stands outcome is =
-      done (crash_by (server m u.0).health (server m u.0)) reply.Down unit (ap (λ (s : Server). crash_by s.health s) here ∙ ap (λ (h : Health). crash_by h (server_of unit)) is)
+  crash_is stands outcome r next e = done (crash_by (server m u.0).health (server m u.0)) r next (ap (λ (s : Server). crash_by s.health s) here ∙ e)
 
   -- arm
   pub arm_is : (stands : Bool) (n : ℕ) (what : Arm) → act chart m stands (line.Arm u n what) ≡ acted reply.Armed (with_unit (record unit { fuse = Some (record { left = n; what = what }) }))
@@ -80,124 +64,28 @@ module _ (chart : Chart) (units : List UnitState) (messages : List Sent) (u : Un
       ∙ ap (λ (n : ℕ). acted (unless (reply.Recovered (taken next.past) n) bar) (with_unit next)) (length-map next.past.admissions counted)
 
   -- admit
-  module _ (stands : Bool) (request : ℕ) (outer : Outer) where
-    abbrev known : Option (ℕ × of.Admission)
-    known = asked request (map counted unit.past.admissions)
+  pub admit_is : (stands : Bool) (request : ℕ) (outer : Outer) (r : Reply) (next : UnitState) →
+      admit_by (bar_at unit.health) (asked request (map counted unit.past.admissions)) (lets chart m u.0 outer) (server_of unit) (record { request = request; outer = outer }) ≡ (r, server_of next) →
+      act chart m stands (line.Admit u request outer) ≡ acted r (with_unit next)
+  unfolding act admit
+  admit_is stands request outer r next e =
+      done (admit_by (bar_at (server m u.0).health) (asked request (server m u.0).admissions) (lets chart m u.0 outer) (server m u.0) (record { request = request; outer = outer })) r next
+      (ap (λ (s : Server). admit_by (bar_at s.health) (asked request s.admissions) (lets chart m u.0 outer) s (record { request = request; outer = outer })) here ∙ e)
 
-    abbrev wanted : of.Admission
-    wanted = record { request = request; outer = outer }
+  -- turn: the peers whose update of the next step isn't held
+  abbrev pub absent : List ℕ
+  absent = filter (λ v. not (is_some (unit.held v (taken unit.past + 1)))) (filter (λ v. not (v == u.0)) (range_with_len 0 (length units)))
 
-    abbrev new_admission : Admission
-    new_admission = record { request = request; outer = outer }
+  missing_is : missing m u.0 ≡ absent
+  missing_is = ap₂ (λ (s : Server) (n : ℕ). filter (λ v. not (s.came v (steps s + 1))) (filter (λ v. not (v == u.0)) (range_with_len 0 n))) here (length-map units server_of)
 
-    admit_is : (r : Reply) (next : UnitState) → admit_by (bar_at unit.health) known (lets chart m u.0 outer) (server_of unit) wanted ≡ (r, server_of next) → act chart m stands (line.Admit u request outer) ≡ acted r (with_unit next)
-    unfolding act admit
-    admit_is r next e =
-        done (admit_by (bar_at (server m u.0).health) (asked request (server m u.0).admissions) (lets chart m u.0 outer) (server m u.0) wanted) r next
-        (ap (λ (s : Server). admit_by (bar_at s.health) (asked request s.admissions) (lets chart m u.0 outer) s wanted) here ∙ e)
+  pub turned_is : (r : TurnReply) (next : UnitState) → turn_by (bar_at unit.health) absent (server_of unit) ≡ (r, server_of next) → turn_of m u.0 ≡ (r, server_of next)
+  unfolding turn_of
+  turned_is r next e = ap₂ (λ (s : Server) (vs : List ℕ). turn_by (bar_at s.health) vs s) here missing_is ∙ e
 
-    admit_healthy : (r : Reply) (next : UnitState) → unit.health ≡ Works → admit_by None known (lets chart m u.0 outer) (server_of unit) wanted ≡ (r, server_of next) → act chart m stands (line.Admit u request outer) ≡ acted r (with_unit next)
-    admit_healthy r next works e = admit_is r next (ap (λ (h : Health). admit_by (bar_at h) known (lets chart m u.0 outer) (server_of unit) wanted) works ∙ e)
-
-    pub admit_down : unit.health ≡ IsDown → act chart m stands (line.Admit u request outer) ≡ acted reply.Down (with_unit unit)
-    admit_down is = admit_is reply.Down unit (ap (λ (h : Health). admit_by (bar_at h) known (lets chart m u.0 outer) (server_of unit) wanted) is)
-
-    pub admit_failed : unit.health ≡ Failed → act chart m stands (line.Admit u request outer) ≡ acted reply.Reopen (with_unit unit)
-    admit_failed is = admit_is reply.Reopen unit (ap (λ (h : Health). admit_by (bar_at h) known (lets chart m u.0 outer) (server_of unit) wanted) is)
-
-    pub admit_again : (n : ℕ) (a : Admission) → unit.health ≡ Works → known ≡ Some (n, counted a) → a.outer ≡ outer → act chart m stands (line.Admit u request outer) ≡ acted (reply.Again n) (with_unit unit)
-    admit_again n a works is same =
-        admit_healthy (reply.Again n) unit works
-        (ap (λ (k : Option (ℕ × of.Admission)). admit_by None k (lets chart m u.0 outer) (server_of unit) wanted) is
-        ∙ ap (λ (r : Reply). (r, server_of unit)) (cond-true (same_outer a.outer outer) (reply.Again n) (reply.Reused n) ((outer_Decides a.outer outer).1 same)))
-
-    differs : (a : Outer) → a ≢ outer → (b : Bool) → same_outer a outer ≡ b → same_outer a outer ≡ false
-    differs a other true e = absurd (other ((outer_Decides a outer).0 e))
-    differs a other false e = e
-
-    pub admit_reused : (n : ℕ) (a : Admission) → unit.health ≡ Works → known ≡ Some (n, counted a) → a.outer ≢ outer → act chart m stands (line.Admit u request outer) ≡ acted (reply.Reused n) (with_unit unit)
-    admit_reused n a works is other =
-        admit_healthy (reply.Reused n) unit works
-        (ap (λ (k : Option (ℕ × of.Admission)). admit_by None k (lets chart m u.0 outer) (server_of unit) wanted) is
-        ∙ ap (λ (r : Reply). (r, server_of unit)) (cond-false (same_outer a.outer outer) (reply.Again n) (reply.Reused n) (differs a.outer other (same_outer a.outer outer) refl)))
-
-    pub admit_refused : (fault : OuterFault) → unit.health ≡ Works → known ≡ None → lets chart m u.0 outer ≡ Err fault → act chart m stands (line.Admit u request outer) ≡ acted (reply.Refused fault) (with_unit unit)
-    admit_refused fault works fresh refused =
-        admit_healthy (reply.Refused fault) unit works (ap₂ (λ (k : Option (ℕ × of.Admission)) (may : Result (Unit {0}) OuterFault). admit_by None k may (server_of unit) wanted) fresh refused)
-
-    -- the reply after the write of an admission
-    abbrev admitted_by : Option Bar × Server → Reply × Server
-    admitted_by did = (unless (reply.New (length (map counted unit.past.admissions) + 1)) did.0, did.1)
-
-    writes : (r : Reply) (next : UnitState) → unit.health ≡ Works → known ≡ None → lets chart m u.0 outer ≡ Ok tt → admitted_by (written (Admits wanted) (server_of unit)) ≡ (r, server_of next) →
-        act chart m stands (line.Admit u request outer) ≡ acted r (with_unit next)
-    writes r next works fresh lets_in e =
-        admit_healthy r next works (ap₂ (λ (k : Option (ℕ × of.Admission)) (may : Result (Unit {0}) OuterFault). admit_by None k may (server_of unit) wanted) fresh lets_in ∙ e)
-
-    pub admit_new : (rest : Option Fuse) → unit.health ≡ Works → known ≡ None → lets chart m u.0 outer ≡ Ok tt → strokes 4 unit.fuse ≡ Done rest →
-        act chart m stands (line.Admit u request outer) ≡ acted (reply.New (length unit.past.admissions + 1)) (with_unit (record unit { past = admitted unit.past new_admission; fuse = rest }))
-    admit_new rest works fresh lets_in met =
-        writes (reply.New (length unit.past.admissions + 1)) (record unit { past = admitted unit.past new_admission; fuse = rest }) works fresh lets_in
-        (ap admitted_by (wrote (Admits wanted) (server_of unit) rest met)
-        ∙ ap₂ (λ (n : ℕ) (s : Server). (reply.New (n + 1), s)) (length-map unit.past.admissions counted) (sym (admitted_is (record unit { fuse = rest }) new_admission)))
-
-    pub admit_broke : (n : ℕ) (what : Arm) → unit.health ≡ Works → known ≡ None → lets chart m u.0 outer ≡ Ok tt → strokes 4 unit.fuse ≡ SetOff n what →
-        act chart m stands (line.Admit u request outer) ≡ acted (barred (bar_of what)) (with_unit (struck unit n what (Admits wanted)))
-    admit_broke n what works fresh lets_in met =
-        writes (barred (bar_of what)) (struck unit n what (Admits wanted)) works fresh lets_in
-        (ap admitted_by (broke unit (Admits wanted) n what met))
-
-  -- turn
-  module _ (stands : Bool) where
-    -- the peers whose update of the next step isn't held
-    abbrev absent : List ℕ
-    absent = filter (λ v. not (is_some (unit.held v (taken unit.past + 1)))) (filter (λ v. not (v == u.0)) (range_with_len 0 (length units)))
-
-    missing_is : missing m u.0 ≡ absent
-    missing_is = ap₂ (λ (s : Server) (n : ℕ). filter (λ v. not (s.came v (steps s + 1))) (filter (λ v. not (v == u.0)) (range_with_len 0 n))) here (length-map units server_of)
-
-    turn_is : (r : TurnReply) (next : UnitState) → turn_by (bar_at unit.health) absent (server_of unit) ≡ (r, server_of next) → act chart m stands (line.Turn u) ≡ acted (reply.Turned r) (with_unit next)
-    unfolding act turn_of
-    turn_is r next e =
-        let did : turn_of m u.0 ≡ (r, server_of next) = ap₂ (λ (s : Server) (vs : List ℕ). turn_by (bar_at s.health) vs s) here missing_is ∙ e in
-        ap (λ (d : TurnReply × Server). acted (reply.Turned d.0) (with_server m u.0 d.1)) did ∙ ap (acted (reply.Turned r)) (with_is units messages u.0 next)
-
-    pub turn_down : unit.health ≡ IsDown → act chart m stands (line.Turn u) ≡ acted (reply.Turned turn.Down) (with_unit unit)
-    turn_down is = turn_is turn.Down unit (ap (λ (h : Health). turn_by (bar_at h) absent (server_of unit)) is)
-
-    pub turn_failed : unit.health ≡ Failed → act chart m stands (line.Turn u) ≡ acted (reply.Turned turn.Reopen) (with_unit unit)
-    turn_failed is = turn_is turn.Reopen unit (ap (λ (h : Health). turn_by (bar_at h) absent (server_of unit)) is)
-
-    pub turn_waits : (v : ℕ) (vs : List ℕ) → unit.health ≡ Works → absent ≡ v ∷ vs → act chart m stands (line.Turn u) ≡ acted (reply.Turned (turn.Waiting (unit_set absent))) (with_unit unit)
-    turn_waits v vs works are =
-        turn_is (turn.Waiting (unit_set absent)) unit
-        (ap₂ (λ (h : Health) (xs : List ℕ). turn_by (bar_at h) xs (server_of unit)) works are ∙ ap (λ (xs : List ℕ). (turn.Waiting (unit_set xs), server_of unit)) (sym are))
-
-    -- the reply after the write of a turn
-    abbrev turned_by : Option Bar × Server → TurnReply × Server
-    turned_by did = (turn_unless (turn.Took (taken unit.past + 1)) did.0, did.1)
-
-    turns : (r : TurnReply) (next : UnitState) → unit.health ≡ Works → absent ≡ [] → turned_by (written (Turns (min max_sealed (unsealed unit.past))) (server_of unit)) ≡ (r, server_of next) →
-        act chart m stands (line.Turn u) ≡ acted (reply.Turned r) (with_unit next)
-    turns r next works none e =
-        turn_is r next
-        (ap₂ (λ (h : Health) (xs : List ℕ). turn_by (bar_at h) xs (server_of unit)) works none
-        ∙ ap (λ (c : Record). turned_by (written c (server_of unit))) (next_is unit)
-        ∙ e)
-
-    pub turn_took : (updates : List Update) (held : ℕ → ℕ → Option Update) (rest : Option Fuse) → unit.health ≡ Works → absent ≡ [] → strokes 4 unit.fuse ≡ Done rest →
-        ((v j : ℕ) → is_some (held v j) ≡ later_than (taken unit.past + 1) (λ v j. is_some (unit.held v j)) v j) →
-        act chart m stands (line.Turn u) ≡ acted (reply.Turned (turn.Took (taken unit.past + 1))) (with_unit (record unit { past = turned unit.past updates; held = held; fuse = rest }))
-    turn_took updates held rest works none met later =
-        turns (turn.Took (taken unit.past + 1)) (record unit { past = turned unit.past updates; held = held; fuse = rest }) works none
-        (ap turned_by (wrote (Turns (min max_sealed (unsealed unit.past))) (server_of unit) rest met)
-        ∙ ap (λ (s : Server). (turn.Took (taken unit.past + 1), s)) (sym (turned_is (record unit { fuse = rest }) updates held later)))
-
-    pub turn_broke : (n : ℕ) (what : Arm) → unit.health ≡ Works → absent ≡ [] → strokes 4 unit.fuse ≡ SetOff n what →
-        act chart m stands (line.Turn u) ≡ acted (reply.Turned (turn_barred (bar_of what))) (with_unit (struck unit n what (Turns (min max_sealed (unsealed unit.past)))))
-    turn_broke n what works none met =
-        turns (turn_barred (bar_of what)) (struck unit n what (Turns (min max_sealed (unsealed unit.past)))) works none
-        (ap turned_by (broke unit (Turns (min max_sealed (unsealed unit.past))) n what met))
+  pub turn_is : (stands : Bool) (r : TurnReply) (next : UnitState) → turn_by (bar_at unit.health) absent (server_of unit) ≡ (r, server_of next) → act chart m stands (line.Turn u) ≡ acted (reply.Turned r) (with_unit next)
+  unfolding act
+  turn_is stands r next e = ap (λ (d : TurnReply × Server). acted (reply.Turned d.0) (with_server m u.0 d.1)) (turned_is r next e) ∙ ap (acted (reply.Turned r)) (with_is units messages u.0 next)
 
   -- show and items
   shows : (h : Health) (r : Reply) → h ≢ IsDown → show_by h r ≡ r

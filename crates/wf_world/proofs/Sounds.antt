@@ -15,17 +15,17 @@ use Rattle.wf_worlds.specs.Worlds.{World, Record, with_unit, stood, IsMade, MayS
 use Rattle.wf_worlds.proofs.GoesOn.{taken_on}
 use Rattle.wf_worlds.proofs.Sounds.{stood_on, stands_sound, sound_is_lean}
 use Rattle.wf_histories.specs.Laws.{AreLean}
-use Rattle.wf_world.specs.Units.{UnitState}
-use Rattle.wf_world.specs.Sounds.{new_unit, unit_at, hist_of, IsSound}
+use Rattle.wf_slot.specs.Units.{UnitState, new_unit}
+use Rattle.wf_world.specs.Sounds.{unit_at, hist_of, IsSound}
 
 -- A LIST WITH ANOTHER ITEM AT A PLACE
 
-get_there : {A : Type 0} (xs : List A) (u : ℕ) (x : A) → u < length xs → slice_get (slice_set xs u x) u ≡ Some x
+pub get_there : {A : Type 0} (xs : List A) (u : ℕ) (x : A) → u < length xs → slice_get (slice_set xs u x) u ≡ Some x
 get_there [] u x lt = absurd (omega (arith, lt))
 get_there (y ∷ ys) zero x lt = refl
 get_there (y ∷ ys) (suc u) x lt = get_there ys u x (omega (arith, lt))
 
-get_other : {A : Type 0} (xs : List A) (u v : ℕ) (x : A) → v ≢ u → slice_get (slice_set xs u x) v ≡ slice_get xs v
+pub get_other : {A : Type 0} (xs : List A) (u v : ℕ) (x : A) → v ≢ u → slice_get (slice_set xs u x) v ≡ slice_get xs v
 get_other [] u v x other = refl
 get_other (y ∷ ys) zero zero x other = absurd (other refl)
 get_other (y ∷ ys) zero (suc v) x other = refl

@@ -13,8 +13,9 @@ use Rattle.wf_histories.specs.Agreement.{Agree, lean}
 use Rattle.wf_worlds.specs.Growing.{Fits, Good}
 use Rattle.wf_worlds.specs.Worlds.{first_history, first_world, Sound}
 use Rattle.wf_worlds.proofs.Sounds.{first_sound}
-use Rattle.wf_world.specs.Units.{UnitState, server_of, machine_of}
-use Rattle.wf_world.specs.Sounds.{new_unit, unit_at, hist_of, IsSound}
+use Rattle.wf_slot.specs.Units.{UnitState, server_of, new_unit}
+use Rattle.wf_world.specs.Machines.{machine_of}
+use Rattle.wf_world.specs.Sounds.{unit_at, hist_of, IsSound}
 
 -- each unit as it begins
 abbrev pub first_units : ℕ → List UnitState

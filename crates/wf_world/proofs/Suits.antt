@@ -31,7 +31,7 @@ use Rattle.wf_owns.specs.Sorted.{is_fit}
 use Rattle.wf_worlds.specs.Growing.{Good}
 use Rattle.wf_worlds.specs.Worlds.{letter, IsMade}
 use Rattle.wf_worlds.proofs.Keeping.{letter_is_fit}
-use Rattle.wf_world.specs.Units.{UnitState}
+use Rattle.wf_slot.specs.Units.{UnitState}
 use Rattle.wf_world.specs.Sounds.{hist_of, IsSound}
 use Rattle.wf_world.proofs.Sounds.{plain, plain_sound}
 use Rattle.wf_worlds.proofs.Growing.{sealed_pass}

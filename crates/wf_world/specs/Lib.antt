@@ -2,7 +2,6 @@ pub mod Sent
 pub mod States
 pub mod Plays
 pub mod Mail
-pub mod Fuses
-pub mod Units
+pub mod Machines
 pub mod Sounds
-pub mod Shown
+pub mod Fleets

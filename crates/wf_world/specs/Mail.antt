@@ -1,11 +1,12 @@
 -- Of other calls. The messages of a world, with their bytes.
-use Rattle.std.specs.Prelude.{◌≡◌, ◌<◌, ◌≤◌, ◌+◌, ℕ, zero, suc, List, length, slice_get, Option, None}
+use Rattle.std.specs.Prelude.{◌≡◌, ◌≢◌, ◌<◌, ◌≤◌, ◌+◌, ℕ, zero, suc, List, length, slice_get, Option, None}
 use Rattle.std.specs.List.{sum_by, AllByRecursion}
 use Rattle.wf_model.specs.Limits.{max_sent}
 use Rattle.wf_model.specs.declared.chart.Chart.{Chart}
+use Rattle.wf_codec.specs.Ranges.{IsUpdate}
 use Rattle.wf_machine.specs.Server.{taken}
 use Rattle.wf_machine.specs.Machine.{CountingMachine, Message, server}
-use Rattle.wf_world.specs.Sent.{bytes_of}
+use Rattle.wf_world.specs.Sent.{brought, bytes_of}
 use Rattle.wf_world.specs.declared.mail.Sent.{Sent}
 
 -- how many bytes they have
@@ -27,15 +28,19 @@ pub record IsCounted (messages : List Sent) (sent : ℕ) : Type 0 where
 abbrev pub message_of : Sent → Message
 message_of x = record { sender = x.sender.0; receiver = x.receiver.0; step = x.step }
 
--- a unit sent it, and has made an update of its step
+-- a unit sent it to another one, and has made an update of its step
 pub record IsMade (m : CountingMachine) (x : Message) : Type 0 where
   pub sender : x.sender < length m.servers
+  pub receiver : x.receiver < length m.servers
+  pub other : x.sender ≢ x.receiver
+  pub first : 1 ≤ x.step
   pub step : x.step ≤ taken (server m x.sender) + 1
 
--- these are its bytes, by the machine
+-- these are its bytes, by the machine, and they can be read again
 pub record IsLetter (chart : Chart) (m : CountingMachine) (x : Sent) : Type 0 where
   pub made : IsMade m (message_of x)
   pub bytes : x.bytes ≡ bytes_of chart m (message_of x)
+  pub whole : IsUpdate (brought chart m (message_of x))
 
 -- all of them are
 abbrev pub AreLetters : Chart → CountingMachine → List Sent → Type 0

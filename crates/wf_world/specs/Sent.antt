@@ -1,8 +1,9 @@
--- Of other calls. How many bytes all messages of a play have, and whether they are too many.
+-- How many bytes all messages of a play have, and whether they are too many.
 use Rattle.std.specs.Prelude.{ℕ, ◌||◌, nat_lt, Bool, false, List, [], ◌∷◌, length}
 use Rattle.std.specs.List.{sum_by}
 use Rattle.wf_model.specs.Limits.{max_sent}
 use Rattle.wf_model.specs.declared.chart.Chart.{Chart}
+use Rattle.wf_model.specs.declared.update.Update.{Update}
 use Rattle.wf_codec.specs.Spelling.{spelling_of}
 use Rattle.wf_parts.specs.Peers.{peers_of}
 use Rattle.wf_views.specs.Relevant.{relevant}
@@ -12,9 +13,13 @@ use Rattle.wf_machine.specs.Shares.{letter_of}
 use Rattle.wf_machine.specs.Lines.{act}
 use Rattle.wf_machine.specs.Runs.{first_outcome, other_outcomes}
 
--- THE BYTES OF A MESSAGE: the spelling of its sender's update of its step, cut by what its receiver knows
+-- what a message brings: its sender's update of its step, cut by what its receiver knows
+abbrev pub brought : Chart → CountingMachine → Message → Update
+brought chart m x = relevant (peers_of chart x.sender) (letter_of chart m x) x.receiver
+
+-- THE BYTES OF A MESSAGE spell what it brings
 abbrev pub bytes_of : Chart → CountingMachine → Message → List ℕ
-bytes_of chart m x = spelling_of (relevant (peers_of chart x.sender) (letter_of chart m x) x.receiver)
+bytes_of chart m x = spelling_of (brought chart m x)
 
 -- how many bytes all messages have that were ever sent
 unfoldable pub sent_bytes : Chart → CountingMachine → ℕ

@@ -1,22 +1,19 @@
--- Inner. What holds of all units of a world together.
-use Rattle.std.specs.Prelude.{◌≡◌, ◌<◌, ◌≤◌, ℕ, is_ok, min, true, List, length, slice_get, unwrap_or, Some, None}
+-- Of other calls. What holds of all units of a world together.
+use Rattle.std.specs.Prelude.{◌≡◌, ◌<◌, ◌≤◌, ℕ, is_ok, min, true, List, length, slice_get, unwrap_or, Some}
 use Rattle.wf_model.specs.Limits.{max_sealed}
 use Rattle.wf_model.specs.declared.chart.Chart.{Chart}
 use Rattle.wf_model.specs.declared.update.Update.{Update}
 use Rattle.wf_parts.specs.Parts.{part_of}
 use Rattle.wf_machine.specs.declared.admission.Admission as of
-use Rattle.wf_machine.specs.Server.{Works, Admits, Turns}
+use Rattle.wf_machine.specs.Server.{Admits, Turns}
 use Rattle.wf_histories.specs.Histories.{History, taken}
 use Rattle.wf_histories.specs.Agreement.{Agree, lean}
 use Rattle.wf_worlds.specs.Admitting.{lets_in}
 use Rattle.wf_worlds.specs.Growing.{Fits, Good, unsealed}
-use Rattle.wf_worlds.specs.Worlds.{first_history, IsMade}
-use Rattle.wf_world.specs.Units.{UnitState, none_held}
+use Rattle.wf_worlds.specs.Worlds.{IsMade}
+use Rattle.wf_slot.specs.Units.{UnitState, new_unit}
 
--- a unit to which nothing was done
-abbrev pub new_unit : ℕ → UnitState
-new_unit u = record { health = Works; past = first_history u; held = none_held; fuse = None; doubt = None }
-
+-- unit u of these, and one to which nothing was done where there is none
 abbrev pub unit_at : List UnitState → ℕ → UnitState
 unit_at units u = unwrap_or (slice_get units u) (new_unit u)
 

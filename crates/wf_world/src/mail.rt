@@ -53,9 +53,17 @@ impl Mail {
 
     /// How many messages were sent. Takes no memory.
     pub fn count(&self) -> u32
-        ensures { result ≡ length self.now }
+        ensures count { result ≡ length self.now }
+        ensures few { result ≤ max_sent }
     {
         self.messages.len() as u32
+    }
+
+    /// All messages, lent, in the order of their numbers. Takes no memory.
+    pub fn all(&self) -> &List<Sent>
+        ensures { result.now ≡ self.now }
+    {
+        &self.messages
     }
 
     /// The message with this number, counted from 1. Takes no memory.

@@ -1,10 +1,11 @@
 //! How a node admits.
-ghost use Rattle.std.specs.Prelude.{◌≡◌, ◌≢◌, ◌+◌, ◌<◌, ℕ, None, false, true, Ok, Err, length, IfOk, IfErr, IfSome, IsErr, IsErrOf, MatchResult};
+ghost use Rattle.std.specs.Prelude.{◌≡◌, ◌≢◌, ◌+◌, ◌<◌, ℕ, None, false, true, Ok, Err, length, IfOk, IfErr, IfSome, IsOk, IsErr, IsErrOf, MatchResult};
+ghost use Rattle.wf_steps.specs.Ends.{IsShort};
 ghost use Rattle.wf_steps.specs.Growing.{MayAdmit};
 ghost use Rattle.wf_server.specs.Servers.{admission, told_by, with_admission};
 ghost use Rattle.wf_server.specs.Images.{CrashLeaves};
 ghost use Rattle.wf_server.specs.Running.{RunsOn};
-ghost use Rattle.wf_server.specs.Answers.{outer_at, IsNew, IsNewRequest, AdmitAnswers};
+ghost use Rattle.wf_server.specs.Answers.{outer_at, IsNew, IsNewRequest, IsAsked, AdmitAnswers};
 ghost use Rattle.wf_server.specs.Repeating.{RepeatRefused};
 
 use crate::node::Node;
@@ -43,6 +44,7 @@ impl<D: Disk> Node<D> {
         ensures fresh { IfOk result (λ known. known ≡ None → IsNewRequest self.now request outer.now (Ok tt)) }
         ensures refused { IfErr result (λ fault. AdmitAnswers self.now request outer.now (Err fault)) }
         ensures no_disk { IsErrOf result AdmitFault.DiskFailed → ⊥ }
+        ensures unasked { IfErr result (λ fault. IsAsked (Err fault) → ⊥) }
     {
         if self.journal.is_failed() {
             return Err(AdmitFault::Reopen);
@@ -61,8 +63,10 @@ impl<D: Disk> Node<D> {
         ensures answer { AdmitAnswers self.old request outer.now result }
         ensures done { IfOk result (λ _. self.new ≡ record self.old { journal = self.new.journal; past = with_admission self.old.past request outer.now; ready = false }) }
         ensures new { IfOk result (λ _. IsNew result) }
+        ensures short { IsAsked result → IsShort outer.now }
         ensures kept { IsErr result → self.new ≡ record self.old { journal = self.new.journal } }
         ensures refused { IsErrOf result AdmitFault.JournalFull → self.new ≡ self.old }
+        ensures healthy { IsOk result → self.new.journal.failed ≡ false }
         ensures no_memory { IsErrOf result AdmitFault.NoMemory → self.new.journal.failed ≡ false }
         ensures failed { IsErrOf result AdmitFault.DiskFailed → self.new.journal.failed ≡ true }
         ensures crash { CrashLeaves (told_by D.told self.old) (told_by D.told self.new) self.old.journal.failed self.old.part self.old.past (with_admission self.old.past request outer.now) }
@@ -83,14 +87,16 @@ impl<D: Disk> Node<D> {
     /// `WrongUnit`, `NoItem`, `AlreadyDone` and `WrongOutput` exactly by the rule, over the items of the steps taken and all
     /// admissions so far; `JournalFull` exactly if the journal says so; `NoMemory`; `DiskFailed`, exactly at a stroke that the disk is
     /// to fail. Else `New`, with one more than the admissions before. After all but `New`, `DiskFailed` and `NoMemory` the node is as
-    /// before, and after these two it is but for its journal. In constant time on average in the history, in linear time in the part
-    /// and the outer.
+    /// before, and after these two it is but for its journal. If the journal was asked, the outer has at most 552 bytes.
+    /// In constant time on average in the history, in linear time in the part and the outer.
     pub fn admit(&mut self, request: u64, outer: &Outer) -> Result<Admitted, AdmitFault>
         ensures answer { AdmitAnswers self.old request outer.now result }
         ensures new { IsNew result → self.new ≡ record self.old { journal = self.new.journal; past = with_admission self.old.past request outer.now; ready = false } }
+        ensures short { IsAsked result → IsShort outer.now }
         ensures again { IfOk result (λ _. (IsNew result → ⊥) → self.new ≡ self.old) }
         ensures kept { IsErr result → self.new ≡ record self.old { journal = self.new.journal } }
         ensures refused { IsErr result → (IsErrOf result AdmitFault.NoMemory → ⊥) → (IsErrOf result AdmitFault.DiskFailed → ⊥) → self.new ≡ self.old }
+        ensures healthy { IsOk result → self.new.journal.failed ≡ false }
         ensures no_memory { IsErrOf result AdmitFault.NoMemory → self.new.journal.failed ≡ self.old.journal.failed }
         ensures failed { IsErrOf result AdmitFault.DiskFailed → self.new.journal.failed ≡ true }
 

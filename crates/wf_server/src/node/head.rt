@@ -2,9 +2,11 @@
 ghost use Rattle.std.specs.Prelude.{◌≡◌, ◌↔◌, ◌+◌, ◌≤◌, ℕ, List, Some, Ok, Err, true, false, IfOk, IfErr, OnOk, IsErrOf};
 ghost use Rattle.wf_disk.specs.Disk.{HasCause, IsDown, IsSame};
 ghost use Rattle.wf_journal.specs.Start.{CanBeRead};
+ghost use Rattle.wf_journal.specs.Frames.{end_of};
 ghost use Rattle.wf_steps.specs.Records.{history_of};
+ghost use Rattle.wf_steps.specs.Ends.{end_of_history};
 ghost use Rattle.wf_steps.specs.Recovering.{IsFault};
-ghost use Rattle.wf_server.specs.Heads.{Stretch, HeadStrokes, IsStill, IsEmpty, IsBegun, IsOpen};
+ghost use Rattle.wf_server.specs.Heads.{Stretch, HeadStrokes, most_head, IsStill, IsEmpty, IsBegun, IsOpen};
 
 use std::alloc::Global;
 use wf_codec::encode_head;
@@ -82,11 +84,10 @@ fn begin<D: Disk>(alloc: Global, part: &Part, journal: &mut Journal<D>) -> Resul
     requires healthy { journal.old.failed ≡ false }
     requires readable { CanBeRead (D.told journal.old.disk) }
     requires still { IsStill (D.told journal.old.disk) }
-    ensures stretch { Stretch part.now (D.told journal.old.disk) (D.told journal.new.disk) 4 (IsErrOf result WriteRefused.Failed) }
+    ensures stretch { Stretch part.now (D.told journal.old.disk) (D.told journal.new.disk) (most_head (D.told journal.old.disk).image) (IsErrOf result WriteRefused.Failed) }
     ensures begun { OnOk result (IsOpen (D.told journal.new.disk)) }
     ensures healthy { OnOk result (journal.new.failed ≡ false) }
     ensures strokes { OnOk result (HeadStrokes (D.told journal.old.disk) (D.told journal.new.disk)) }
-    ensures most { OnOk result ((D.told journal.new.disk).clock ≤ (D.told journal.old.disk).clock + 4) }
 {
     match has_frame(alloc, journal) {
         Ok(true) => Ok(()),
@@ -111,9 +112,10 @@ pub fn read_unit<D: Disk>(
     ensures given_back { IfErr result (λ refused. refused.part ≡ part) }
 
     // The disk.
-    ensures stretch { IfOk result (λ _. Stretch part (D.told journal.old.disk) (D.told journal.new.disk) 4 ⊥) }
-    ensures stretch_refused { IfErr result (λ refused. Stretch part (D.told journal.old.disk) (D.told journal.new.disk) 4 (refused.fault ≡ RecoverFault.DiskFailed)) }
+    ensures stretch { IfOk result (λ _. Stretch part (D.told journal.old.disk) (D.told journal.new.disk) (most_head (D.told journal.old.disk).image) ⊥) }
+    ensures stretch_refused { IfErr result (λ refused. Stretch part (D.told journal.old.disk) (D.told journal.new.disk) (most_head (D.told journal.old.disk).image) (refused.fault ≡ RecoverFault.DiskFailed)) }
     ensures begun { IfOk result (λ _. IsOpen (D.told journal.new.disk)) }
+    ensures end { IfOk result (λ r. (file : List ℕ) → (D.told journal.new.disk).image ≡ Some file → end_of file ≡ end_of_history r.part r.past) }
     ensures healthy { IfOk result (λ _. journal.new.failed ≡ false) }
     ensures strokes { IfOk result (λ _. HeadStrokes (D.told journal.old.disk) (D.told journal.new.disk)) }
 {

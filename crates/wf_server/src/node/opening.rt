@@ -2,12 +2,13 @@
 ghost use Rattle.std.specs.Prelude.{◌≡◌, ◌+◌, ℕ, List, Some, false, IfOk, IfErr};
 ghost use Rattle.wf_disk.specs.Disk.{LeavesOnly};
 ghost use Rattle.wf_journal.specs.Start.{CanBeRead};
+ghost use Rattle.wf_histories.specs.Histories.{History};
 ghost use Rattle.wf_steps.specs.Growing.{IsMade};
 ghost use Rattle.wf_steps.specs.Records.{history_of};
 ghost use Rattle.std.specs.Prelude.{Ok};
-ghost use Rattle.wf_server.specs.Images.{HoldsOneOf};
-ghost use Rattle.wf_server.specs.Heads.{Stretch, HeadStrokes, IsStill, ReadFails};
-ghost use Rattle.wf_server.specs.Starting.{StartFails, IsStarted, StartRuns, strokes_on};
+ghost use Rattle.wf_server.specs.Images.{Holds, HoldsOneOf};
+ghost use Rattle.wf_server.specs.Heads.{Stretch, HeadStrokes, most_head, IsStill, ReadFails};
+ghost use Rattle.wf_server.specs.Starting.{StartFails, IsStarted, StartRuns, strokes_on, Reopens, StaysShut};
 
 use crate::NodeFault;
 use crate::node::head::read_unit;
@@ -35,8 +36,8 @@ impl<D: Disk> Node<D> {
         ensures given_back { IfErr result (λ refused. refused.part ≡ part) }
 
         // The disk.
-        ensures stretch { IfOk result (λ node. Stretch part (D.told journal.disk) (D.told node.journal.disk) 4 ⊥) }
-        ensures stretch_refused { IfErr result (λ refused. Stretch part (D.told journal.disk) (D.told refused.disk) 4 (refused.fault ≡ NodeFault.DiskFailed)) }
+        ensures stretch { IfOk result (λ node. Stretch part (D.told journal.disk) (D.told node.journal.disk) (most_head (D.told journal.disk).image) ⊥) }
+        ensures stretch_refused { IfErr result (λ refused. Stretch part (D.told journal.disk) (D.told refused.disk) (most_head (D.told journal.disk).image) (refused.fault ≡ NodeFault.DiskFailed)) }
         ensures strokes { IfOk result (λ node. HeadStrokes (D.told journal.disk) (D.told node.journal.disk)) }
     {
         let mut journal = journal;
@@ -50,6 +51,7 @@ impl<D: Disk> Node<D> {
         match read_unit(alloc, part, &mut journal) {
             Ok(replica) => {
                 let _made = replica.history();
+                let _ready = journal.disk();
                 Ok(Node {
                     journal,
                     replica,
@@ -70,8 +72,9 @@ impl<D: Disk> Node<D> {
     /// Starts a node on a disk: it opens the journal, writes the head record on one without frames, and recovers the history. The refusal
     /// is what the journal's start answers, and only then what the recovery answers, so that `BadFrame` comes before `Foreign` and
     /// `BadRecord`; each comes exactly if the image is so. Part and disk are given back at a refusal, and the disk's history is as
-    /// before. A crash meanwhile leaves a history that a crash just before could leave. In linear time in the journal, with one frame
-    /// in memory at a time beside the history.
+    /// before. A crash meanwhile leaves a history that a crash just before could leave. Over an image that a node left it makes one stroke,
+    /// and answers Ok with that history, unless the disk fails or memory runs out. In linear time in the journal, with one frame in
+    /// memory at a time beside the history.
     pub fn start(alloc: Global, part: Part, disk: D) -> Result<Node<D>, StartRefused<D>>
         ensures history { IfOk result (λ node. (file : List ℕ) → (D.told disk).image ≡ Some file → history_of part file ≡ Ok node.past) }
         ensures started { IfOk result (IsStarted part) }
@@ -80,6 +83,12 @@ impl<D: Disk> Node<D> {
         ensures given_back { IfErr result (λ refused. refused.part ≡ part) }
         ensures kept { IfErr result (λ refused. (old new : List ℕ) → (D.told disk).image ≡ Some old → (D.told refused.disk).image ≡ Some new →
             history_of part new ≡ history_of part old) }
+
+        // Over an image that a node left.
+        ensures reopens { IfOk result (λ node. (past : History) (file : List ℕ) → (D.told disk).image ≡ Some file → Holds part past file →
+            Reopens (D.told disk) (D.told node.journal.disk) past node.past) }
+        ensures stays_shut { IfErr result (λ refused. (past : History) (file : List ℕ) → (D.told disk).image ≡ Some file → Holds part past file →
+            StaysShut (D.told disk) (D.told refused.disk) refused.fault) }
 
         // What a crash leaves, at any moment of the call, and what the call does to its disk.
         ensures crash { IfOk result (λ node. (file : List ℕ) → (D.told disk).image ≡ Some file →

@@ -5,11 +5,12 @@ ghost use Rattle.wf_model.specs.Limits.{max_steps};
 ghost use Rattle.wf_codec.specs.Bodies.{IsBodyOf};
 ghost use Rattle.wf_codec.specs.Records.{record_spelling};
 ghost use Rattle.wf_histories.specs.Histories.{taken};
+ghost use Rattle.wf_steps.specs.Ends.{longest_turn};
 ghost use Rattle.wf_steps.specs.Growing.{MayTurn};
 ghost use Rattle.wf_steps.specs.Replicas.{prepared_of};
 ghost use Rattle.wf_worlds.specs.Growing.{turned};
 ghost use Rattle.wf_server.specs.Servers.{held, held_in, told_by, turn_record, with_turn, inputs_of};
-ghost use Rattle.wf_server.specs.Inbox.{AllCame};
+ghost use Rattle.wf_server.specs.Inbox.{AllCame, IsInbox};
 ghost use Rattle.wf_server.specs.Images.{CrashLeaves};
 ghost use Rattle.wf_server.specs.Running.{RunsOn};
 ghost use Rattle.wf_server.specs.Answers.{CanTurn, TurnAnswers};
@@ -31,6 +32,7 @@ fn work_out(alloc: Global, replica: &Replica, came: &[Option<Update>]) -> Result
     ensures prepared { IfOk result (λ ready. ready.prepared ≡ prepared_of replica.now.part replica.now.past (inputs_of came.now)) }
     ensures few { IfOk result (λ ready. length ready.prepared.starts < 2 ^ 32) }
     ensures body { IfOk result (λ ready. IsBodyOf (turn_record replica.now.past came.now) ready.body) }
+    ensures short { IfOk result (λ ready. length ready.body ≤ longest_turn) }
 {
     let inputs = copies_of(alloc, came)?;
     let prepared = replica.prepare(alloc, inputs)?;
@@ -121,6 +123,7 @@ impl<D: Disk> Node<D> {
         ensures none { OnOk result ((v : ℕ) → held_in self.new.early v ≡ None) }
         ensures kept { IsErr result → self.new ≡ record self.old { journal = self.new.journal } }
         ensures refused { IsErr result → (IsErrOf result TurnFault.NoMemory → ⊥) → (IsErrOf result TurnFault.DiskFailed → ⊥) → self.new ≡ self.old }
+        ensures healthy { IsOk result → self.new.journal.failed ≡ false }
         ensures no_memory { IsErrOf result TurnFault.NoMemory → self.new.journal.failed ≡ false }
         ensures failed { IsErrOf result TurnFault.DiskFailed → self.new.journal.failed ≡ true }
         ensures enough { (told_by D.told self.old).has_room 2 (length (record_spelling (turn_record self.old.past self.old.came)) + 6) → IsErrOf result TurnFault.NoMemory → ⊥ }
@@ -143,11 +146,13 @@ impl<D: Disk> Node<D> {
     /// Turn may be worked out, and after these two it is but for its journal. In linear time in the updates, the part and the view.
     pub fn turn(&mut self) -> Result<Turn, TurnFault>
         ensures answer { TurnAnswers self.old result }
+        ensures inbox { IsInbox self.old.part (taken self.old.past + 1) self.old.came }
         ensures took { OnOk result (self.new ≡ record self.old { journal = self.new.journal; past = with_turn self.old.past self.old.came; came = self.old.early; early = self.new.early; ready = false }) }
         ensures later { OnOk result ((v step : ℕ) → taken self.old.past + 1 < step → held self.new v step ≡ held self.old v step) }
         ensures kept { IsErr result → self.new ≡ record self.old { journal = self.new.journal; ready = self.new.ready } }
         ensures refused { IsErr result → (IsErrOf result TurnFault.NoMemory → ⊥) → (IsErrOf result TurnFault.DiskFailed → ⊥) →
             self.new ≡ record self.old { journal = record self.old.journal { room = self.new.journal.room }; ready = self.new.ready } }
+        ensures healthy { IsOk result → self.new.journal.failed ≡ false }
         ensures no_memory { IsErrOf result TurnFault.NoMemory → self.new.journal.failed ≡ self.old.journal.failed }
         ensures failed { IsErrOf result TurnFault.DiskFailed → self.new.journal.failed ≡ true }
 

@@ -2,7 +2,7 @@ use Rattle.std.proofs.Common.{◌≡◌, ◌<◌, List, [], ◌∷◌, Option, S
 use Rattle.wf_model.specs.declared.ids.StateId.{StateId}
 use Rattle.wf_model.specs.declared.ids.TransId.{TransId}
 use Rattle.wf_scopes.specs.Tables.{ancestor_ids}
-use Rattle.wf_central.specs.Kept.{bit}
+use Rattle.wf_model.specs.Bits.{bit}
 use Rattle.wf_central.specs.Passes.{at, or_else, first_ids, bit_by}
 use Rattle.wf_central.proofs.passes.is_in_then.Goals as goal
 

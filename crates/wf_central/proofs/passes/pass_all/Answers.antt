@@ -5,7 +5,7 @@ use Rattle.wf_semantics.proofs.Facts.{chart_of}
 use Rattle.wf_semantics.proofs.Runs.{enabled_sources, snapshot_shows}
 use Rattle.wf_model.proofs.Rows.{row_agree}
 use Rattle.wf_central.specs.Sight.{seeing}
-use Rattle.wf_central.specs.Kept.{bit}
+use Rattle.wf_model.specs.Bits.{bit}
 use Rattle.wf_central.specs.Made.{AreBits, MakesWalk, seen_of}
 use Rattle.wf_central.proofs.Sights.{shows, enabled_same, store_made, raised_made, starts_made}
 use Rattle.wf_central.proofs.passes.pass_all.Goals as goal

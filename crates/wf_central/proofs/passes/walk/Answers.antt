@@ -7,8 +7,8 @@ use Rattle.wf_central.proofs.Passing.{firing_known, fired_made, moved_made, all_
 use Rattle.wf_central.proofs.passes.walk.Goals as goal
 use Rattle.wf_model.specs.Ids.{trans_id}
 
-pub moved-requires-clause-known : goal.moved-requires-clause-known
-moved-requires-clause-known c =
+pub active_after-requires-clause-known : goal.active_after-requires-clause-known
+active_after-requires-clause-known c =
     firing_known c.args.chart.now c.args.ready.now c.as_slice.result.now c.as_slice-3.result.now (c.as_slice.ensures ∙ c.in_ok-chosen.ensures) (c.as_slice-3.ensures ∙ c.in_ok-firing.ensures)
 
 pub returns-clause-walk : goal.returns-clause-walk

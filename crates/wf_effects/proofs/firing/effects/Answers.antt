@@ -1,7 +1,7 @@
 use Rattle.std.proofs.Common.{length, ap, ◌∙◌, arith}
 use Rattle.wf_effects.specs.Numbers.{numbers}
 use Rattle.wf_effects.specs.Performing.{nothing_yet, events_of}
-use Rattle.wf_effects.proofs.Bits.{few_events}
+use Rattle.wf_model.proofs.Few.{few_events}
 use Rattle.wf_effects.proofs.Effecting.{store_is, raised_is, raised_size, starts_is, sorts_is}
 use Rattle.wf_effects.proofs.firing.effects.Goals as goal
 

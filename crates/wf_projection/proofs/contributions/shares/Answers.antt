@@ -5,7 +5,8 @@ use Rattle.wf_model.specs.declared.chart.Chart.{Chart}
 use Rattle.wf_parts.specs.Parts.{part_of}
 use Rattle.wf_lockstep.specs.Shares.{share_of}
 use Rattle.wf_lockstep.specs.Lock.{lock_update, outers_by}
-use Rattle.wf_projection.proofs.Projected.{parts_long, few_units, row_of, projected}
+use Rattle.wf_model.proofs.Few.{few_units}
+use Rattle.wf_projection.proofs.Projected.{parts_long, row_of, projected}
 use Rattle.wf_projection.proofs.contributions.shares.Goals as goal
 
 pub prove-unreachable-requires : goal.prove-unreachable-requires

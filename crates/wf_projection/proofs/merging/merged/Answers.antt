@@ -1,37 +1,24 @@
-use Rattle.std.proofs.Common.{◌≡◌, ◌<◌, ℕ, List, [], ◌∷◌, ◌++◌, ◌∙◌, map, flat_map, length, get_or, ap, refl, arith}
-use Rattle.std.specs.List.{range_with_len}
-use Rattle.wf_model.proofs.Rows.{row_more}
+use Rattle.std.proofs.Common.{◌≡◌, ◌<◌, ℕ, List, ◌∙◌, length, ap, sym, subst, arith}
+use Rattle.std.specs.Prelude.{IfOk}
 use Rattle.wf_machine.specs.declared.admission.Place.{Place}
-use Rattle.wf_histories.specs.Agreement.{least_taken}
-use Rattle.wf_projection.specs.Merged.{merged_places}
-use Rattle.wf_projection.proofs.Places.{step_of, step_is, list_is, all_fit}
+use Rattle.wf_projection.specs.Merged.{AreTurns, merged_places, IsCentralAt}
+use Rattle.wf_projection.proofs.Places.{all_fit, units_long, turns_here, if_ok}
 use Rattle.wf_projection.proofs.Central.{central_at}
 use Rattle.wf_projection.proofs.merging.merged.Goals as goal
-
-pub loop-at-preserved : goal.loop-at-preserved
-loop-at-preserved c =
-    λ h are.
-    let n = length c.args.histories.now in
-    let at = c.loop-at.at in
-    let item = c.in_ok-step_places.field-0 in
-    let end = c.least_taken-at-end.ensures h are in
-    let within : at < least_taken n h = omega (arith, end, c.loop-at-test.true) in
-    let item_is : item ≡ step_of n h at =
-    c.in_ok-step_places.ensures ∙ ap (flat_map (λ (turns : List (List Place)). get_or turns at [])) (c.as_slice.ensures ∙ c.in_ok-units.ensures h are) ∙ step_is n h at within in
-    c.in_ok-push-3.ensures.ok
-    ∙ ap (λ (l : List (List Place)). l ++ item ∷ []) (c.loop-at.invariant h are)
-    ∙ ap (λ (l : List (List Place)). [] ∷ [] ∷ l) (row_more (step_of n h) at (map (step_of n h) (range_with_len 0 at)) item refl item_is)
 
 pub returns-clause-list : goal.returns-clause-list
 returns-clause-list c =
     λ h are.
     let n = length c.args.histories.now in
-    let end = c.least_taken-at-end.ensures h are in
-    let done : c.loop-at.at ≡ least_taken n h = omega (arith, end, c.loop-at-test.false, c.loop-at.auto.at-end) in
-    c.loop-at.invariant h are ∙ ap (λ (k : ℕ). [] ∷ [] ∷ map (step_of n h) (range_with_len 0 k)) done ∙ list_is n h
+    let units = c.in_ok-units.units in
+    let turns = c.in_ok-units.ensures h are in
+    let here : AreTurns c.as_slice.result.now h = subst (λ (us : List (List (List Place))). AreTurns us h) (sym c.as_slice.ensures) (turns_here units h n turns) in
+    let long : length c.as_slice.result.now ≡ n = ap (λ (us : List (List (List Place))). length us) c.as_slice.ensures ∙ units_long units h n turns in
+    subst (λ (k : ℕ). IfOk c.places_in_order.result (λ steps. steps ≡ merged_places k h)) long (c.places_in_order.ensures h here)
 
 pub returns-clause-central : goal.returns-clause-central
 returns-clause-central c =
     λ chart h are same lean.
-    let list : c.loop-at.steps ≡ merged_places (length c.args.histories.now) h = returns-clause-list c h are in
-    central_at chart h c.loop-at.steps (λ u lt. all_fit c.args.histories.now h are c.requires.fits u (omega (arith, lt, same))) lean (list ∙ ap (λ (n : ℕ). merged_places n h) same)
+    if_ok c.places_in_order.result (λ steps. steps ≡ merged_places (length c.args.histories.now) h) (IsCentralAt chart h)
+    (λ steps list. central_at chart h steps (λ u lt. all_fit c.args.histories.now h are c.requires.fits u (omega (arith, lt, same))) lean (list ∙ ap (λ (n : ℕ). merged_places n h) same))
+    (returns-clause-list c h are)

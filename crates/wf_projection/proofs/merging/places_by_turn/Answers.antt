@@ -1,7 +1,8 @@
 use Rattle.std.proofs.Common.{◌≡◌, ℕ, ◌+◌, ◌∙◌, length, get_or, ap, refl, arith}
 use Rattle.wf_histories.specs.Histories.{TurnDone, seals}
 use Rattle.wf_model.proofs.Rows.{row_more}
-use Rattle.wf_projection.proofs.Places.{turn_places, sealed_is, turn_within, sealed_fits, sealed_more, turn_is}
+use Rattle.wf_projection.specs.Merged.{turn_places}
+use Rattle.wf_projection.proofs.Places.{sealed_is, turn_within, sealed_fits, sealed_more, turn_is}
 use Rattle.wf_projection.proofs.merging.places_by_turn.Goals as goal
 
 pub prove-unreachable-requires : goal.prove-unreachable-requires

@@ -1,7 +1,7 @@
 use Rattle.std.proofs.Common.{◌≡◌, map, take, sum}
 use Rattle.std.specs.List.{range_with_len}
 use Rattle.wf_histories.specs.Histories.{seals}
-use Rattle.wf_projection.proofs.Places.{turn_places}
+use Rattle.wf_projection.specs.Merged.{turn_places}
 use Rattle.wf_projection.proofs.merging.places_by_turn.Given as goal
 
 abbrev pub invariant-loop-turn : goal.invariant-loop-turn

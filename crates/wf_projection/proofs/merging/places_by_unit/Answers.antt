@@ -1,6 +1,7 @@
 use Rattle.std.proofs.Common.{◌∙◌, ap}
 use Rattle.wf_model.proofs.Rows.{row_more}
-use Rattle.wf_projection.proofs.Places.{history_at, unit_places}
+use Rattle.wf_projection.specs.Merged.{unit_places}
+use Rattle.wf_projection.proofs.Places.{history_at}
 use Rattle.wf_projection.proofs.merging.places_by_unit.Goals as goal
 
 pub loop-unit-preserved : goal.loop-unit-preserved

@@ -1,8 +1,7 @@
 use Rattle.std.proofs.Common.{◌≡◌, ℕ, map}
 use Rattle.std.specs.List.{range_with_len}
 use Rattle.wf_histories.specs.Histories.{History}
-use Rattle.wf_projection.specs.Merged.{AreOf}
-use Rattle.wf_projection.proofs.Places.{unit_places}
+use Rattle.wf_projection.specs.Merged.{AreOf, unit_places}
 use Rattle.wf_projection.proofs.merging.places_by_unit.Given as goal
 
 abbrev pub invariant-loop-unit : goal.invariant-loop-unit

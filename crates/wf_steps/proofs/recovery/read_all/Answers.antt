@@ -10,6 +10,9 @@ use Rattle.wf_worlds.specs.Worlds.{first_history}
 use Rattle.wf_steps.specs.declared.fault.RecoverFault.{RecoverFault}
 use Rattle.wf_steps.specs.Records.{read_on, head_of, history_of}
 use Rattle.wf_steps.specs.Recovering.{IsFault, Reads}
+use Rattle.wf_codec.specs.declared.record.JournalRecord.TheVariants.{Head}
+use Rattle.wf_steps.specs.Ends.{frame_size}
+use Rattle.wf_steps.proofs.Ends.{no_bodies, all_ends}
 use Rattle.wf_steps.proofs.Reading.{bodies, history_end, head_more, head_wrong}
 use Rattle.wf_steps.proofs.recovery.read_all.Goals as goal
 
@@ -51,3 +54,20 @@ returns-clause-reads g c file image place =
     head_more c.args.replica.now.part file c.read.new.into c.in-Some.next read next_is (first_history c.args.replica.now.part.unit.0) head
     ∙ ap (read_on c.args.replica.now.part (bodies file c.in-Some.next) c.in-Some.next) (sym c.requires) in
     subst (λ (r : Result History RecoverFault). Reads r c.read_rest.new.replica.past c.read_rest.result) (sym same) (c.read_rest.ensures.reads file (c.read.ensures.same.image ∙ image) read.0)
+
+pub returns-in_default-clause-end : goal.returns-in_default-clause-end
+returns-in_default-clause-end g c file image place some =
+    let P : Option ℕ → Type 0 = λ o. IsRead file 0 o c.read.new.into in
+    let ends : 0 ≡ end_of file = subst P c.in_default.is (c.in_ok-next.ensures.read file image place) in
+    absurd (some (no_bodies file place ends))
+
+pub returns-clause-end : goal.returns-clause-end
+returns-clause-end g c =
+    let part_is : c.data.result.now ≡ c.args.replica.now.part = c.data.ensures.same ∙ c.part.ensures in
+    let size : header + length c.read.new.into ≡ frame_size (Head 1 c.args.replica.now.part.chart c.args.replica.now.part.name) =
+    ap (λ (b : List ℕ). header + length b) (sym c.as_slice.ensures) ∙ c.in_ok-check_head.ensures.size ∙ ap (λ (p : PartData). frame_size (Head 1 p.chart p.name)) part_is in
+    all_ends (g.D.Disk.told c.args.journal.now.disk) (g.D.Disk.told c.read.new.self.disk) c.read_rest.result c.args.replica.now.part c.read_rest.new.replica.part c.args.replica.now.past c.read_rest.new.replica.past c.in-Some.next c.read.new.into
+    c.requires c.read.ensures.same.image size
+    (let Q : Option ℕ → Type 0 = λ o. IfSome o (λ n. n ≡ 0 + (header + length c.read.new.into)) in subst Q c.in-Some.is c.in_ok-next.ensures.next)
+    (λ file image place. let P : Option ℕ → Type 0 = λ o. IsRead file 0 o c.read.new.into in (subst P c.in-Some.is (c.in_ok-next.ensures.read file image place)).0)
+    c.read_rest.ensures.end

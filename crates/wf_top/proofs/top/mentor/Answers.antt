@@ -6,6 +6,7 @@ use Rattle.wf_model.specs.declared.status.Status.TheVariants as status
 use Rattle.wf_model.specs.Faults.{Rose}
 use Rattle.wf_refusals.specs.Lines.{refusal}
 use Rattle.wf_gen.specs.GenText.{gen_text}
+use Rattle.wf_machine.specs.Runs.{Outcomes}
 use Rattle.wf_top.specs.Answers.{answer, answer_within, command_of, gen_number}
 use Rattle.wf_top.proofs.Dues.{finished, long_answer, read_answer, answer_due}
 use Rattle.wf_top.proofs.top.mentor.Goals as goal
@@ -58,16 +59,17 @@ returns-clause-answer g c =
     let taken : Consumes (g.S.Source.left c.args.source.now) (g.S.Source.left c.read_all.new.source) c.in-Ok-read_all.input = search rules in
     let end : IsAtEnd (g.S.Source.left c.read_all.new.source) = search rules in
     let within : length c.in-Ok-read_all.input ≤ max_input = search rules in
-    let found : c.in-Ok-answer_to.found ≡ answer_within c.in-Some-command_of.command c.in-Ok-read_all.input = search rules in
+    let found : (outcomes : Outcomes) × (c.in-Ok-answer_to.found ≡ answer_within c.in-Some-command_of.command outcomes c.in-Ok-read_all.input) = search rules in
+    let outcomes : Outcomes = found.0 in
     let text : c.as_slice-in-Ok-answer_to.result.now ≡ c.in-Ok-answer_to.found.text = search rules in
-    let is : answer c.in-Ok-answer_to.found.status c.as_slice-in-Ok-answer_to.result.now ≡ answer_within c.in-Some-command_of.command c.in-Ok-read_all.input =
-    ap (answer c.in-Ok-answer_to.found.status) text ∙ found in
+    let is : answer c.in-Ok-answer_to.found.status c.as_slice-in-Ok-answer_to.result.now ≡ answer_within c.in-Some-command_of.command outcomes c.in-Ok-read_all.input =
+    ap (answer c.in-Ok-answer_to.found.status) text ∙ found.1 in
     finished c.args.words.now (record { left = g.S.Source.left c.args.source.now; read_faults = g.S.Source.faults c.args.source.now; held = g.K.Sink.held c.args.sink.now; write_faults = g.K.Sink.faults c.args.sink.now })
     (record { left = g.S.Source.left c.read_all.new.source; read_faults = g.S.Source.faults c.read_all.new.source; held = g.K.Sink.held c.finish-in-Ok-answer_to.new.sink; write_faults = g.K.Sink.faults c.finish-in-Ok-answer_to.new.sink })
     c.in-Ok-answer_to.found.status c.as_slice-in-Ok-answer_to.result.now c.finish-in-Ok-answer_to.result
     (answer_due c.args.words.now (record { left = g.S.Source.left c.args.source.now; read_faults = g.S.Source.faults c.args.source.now; held = g.K.Sink.held c.args.sink.now; write_faults = g.K.Sink.faults c.args.sink.now })
     (record { left = g.S.Source.left c.read_all.new.source; read_faults = g.S.Source.faults c.read_all.new.source; held = g.K.Sink.held c.finish-in-Ok-answer_to.new.sink; write_faults = g.K.Sink.faults c.finish-in-Ok-answer_to.new.sink })
-    c.in-Some-command_of.command c.in-Ok-read_all.input c.in-Ok-answer_to.found.status c.as_slice-in-Ok-answer_to.result.now is
-    (record { command = c.in-Some-command_of.command; named = named; faults = kept; answer = read_answer c.in-Some-command_of.command (g.S.Source.left c.args.source.now) (g.S.Source.left c.read_all.new.source) c.in-Ok-read_all.input (answer c.in-Ok-answer_to.found.status c.as_slice-in-Ok-answer_to.result.now) taken end within is })
+    c.in-Some-command_of.command outcomes c.in-Ok-read_all.input c.in-Ok-answer_to.found.status c.as_slice-in-Ok-answer_to.result.now is
+    (record { command = c.in-Some-command_of.command; named = named; faults = kept; answer = read_answer c.in-Some-command_of.command outcomes (g.S.Source.left c.args.source.now) (g.S.Source.left c.read_all.new.source) c.in-Ok-read_all.input (answer c.in-Ok-answer_to.found.status c.as_slice-in-Ok-answer_to.result.now) taken end within is })
     end)
     c.finish-in-Ok-answer_to.ensures

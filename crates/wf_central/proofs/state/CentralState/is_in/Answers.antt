@@ -1,6 +1,7 @@
 use Rattle.std.proofs.Common.{ap, ◌∙◌, length}
 use Rattle.wf_semantics.specs.Configuration.{is_in}
-use Rattle.wf_central.specs.Kept.{Kept, bit, central_of}
+use Rattle.wf_model.specs.Bits.{bit}
+use Rattle.wf_central.specs.Kept.{Kept, central_of}
 use Rattle.wf_central.proofs.Passing.{row_bit}
 use Rattle.wf_central.proofs.state.CentralState.is_in.Goals as goal
 

@@ -7,12 +7,13 @@ use Rattle.wf_histories.specs.Histories.{History, taken}
 use Rattle.wf_worlds.specs.Growing.{turned}
 use Rattle.wf_steps.specs.Replicas.{prepared_of}
 use Rattle.wf_steps.specs.declared.prepared.Prepared.{Prepared}
+use Rattle.wf_steps.specs.Ends.{longest_turn}
 use Rattle.wf_steps.specs.Growing.{MayTurn}
 use Rattle.wf_server.specs.Servers.{Server, inputs_of, turn_record, with_turn}
 use Rattle.wf_server.specs.Nodes.{IsReady}
 use Rattle.wf_server.proofs.Standing.{Appended}
 use Rattle.wf_server.proofs.Keeping.{residual, node_kept, node_turned, view_turned}
-use Rattle.wf_server.proofs.Turning.{crash_asked, stands_added, stands_kept, answer_added, answer_err, runs_added, runs_of_err, failed_memory, failed_disk, same_refused, enough_asked, took_now}
+use Rattle.wf_server.proofs.Turning.{crash_asked, healthy_added, placed_added, placed_kept, stands_added, stands_kept, answer_added, answer_err, runs_added, runs_of_err, failed_memory, failed_disk, same_refused, enough_asked, took_now}
 use Rattle.wf_server.proofs.node.Node.add_turn.Given.{Over}
 use Rattle.wf_server.proofs.node.Node.add_turn.Goals as goal
 
@@ -22,6 +23,8 @@ said_err g c = record {
   other = c.append.ensures.other;
   ok = c.append.ensures.ok;
   no_memory = c.append.ensures.no_memory;
+  place = c.append.ensures.place;
+  place_kept = c.append.ensures.place_kept;
   failed = c.append.ensures.failed;
   not_failed = c.append.ensures.not_failed;
   tells = c.append.ensures.tells;
@@ -46,6 +49,8 @@ said_ok g c = record {
   other = c.append.ensures.other;
   ok = c.append.ensures.ok;
   no_memory = c.append.ensures.no_memory;
+  place = c.append.ensures.place;
+  place_kept = c.append.ensures.place_kept;
   failed = c.append.ensures.failed;
   not_failed = c.append.ensures.not_failed;
   tells = c.append.ensures.tells;
@@ -72,9 +77,12 @@ pub invariant_of-self : goal.invariant_of-self
 invariant_of-self g c =
     node_kept g.D.Disk.told _ _ _ _ _ _ _ c.self.invariant refl refl (omega arith) (omega arith) c.append.ensures.room
     (stands_kept g.D.Disk.told g.met.D.Disk.lawful _ _ c.self.view_is c.self.invariant.stands c.requires.can (ready_err g c).may c.append.new.self c.as_slice.result.now (body_err g c) c.append.result (said_err g c) c.in_err-append.field-0.0 c.in_err-append.was)
+    (placed_kept g.D.Disk.told g.met.D.Disk.lawful _ _ c.self.view_is c.self.invariant.stands c.requires.can (ready_err g c).may c.append.new.self c.as_slice.result.now (body_err g c) c.append.result (said_err g c) c.self.invariant.placed c.in_err-append.field-0.0 c.in_err-append.was)
 
 pub returns-in_err-append-clause-answer : goal.returns-in_err-append-clause-answer
-returns-in_err-append-clause-answer g c = answer_err g.D.Disk.told g.met.D.Disk.lawful _ _ c.self.view_is c.self.invariant.stands c.requires.can (ready_err g c).may c.append.new.self c.as_slice.result.now (body_err g c) c.append.result (said_err g c) c.in_err-append.field-0.0 c.in_err-append.was _ (residual _ _ c.from_residual.ensures.1)
+returns-in_err-append-clause-answer g c =
+    answer_err g.D.Disk.told g.met.D.Disk.lawful _ _ c.self.view_is c.self.invariant.stands c.requires.can (ready_err g c).may c.append.new.self c.as_slice.result.now (body_err g c) c.append.result (said_err g c) c.in_err-append.field-0.0 c.in_err-append.was _ (residual _ _ c.from_residual.ensures.1)
+    (subst (λ (b : List ℕ). length b ≤ longest_turn) (sym c.as_slice.ensures) (ready_err g c).short)
 
 pub returns-in_err-append-clause-refused : goal.returns-in_err-append-clause-refused
 returns-in_err-append-clause-refused g c = λ is_err memory disk.
@@ -109,6 +117,7 @@ pub invariant_of-self-2 : goal.invariant_of-self-2
 invariant_of-self-2 g c =
     node_turned g.D.Disk.told _ _ _ _ _ _ _ _ _ _ c.self.invariant c.take.ensures.part (past_ok g c) c.go_on.ensures.came c.go_on.ensures.size c.go_on.ensures.none c.take.ensures.none
     (stands_added g.D.Disk.told g.met.D.Disk.lawful _ _ c.self.view_is c.self.invariant.stands c.requires.can (ready_ok g c).may c.append.new.self c.as_slice.result.now (body_ok g c) c.append.result (said_ok g c) c.in_ok-append.was)
+    (placed_added g.D.Disk.told g.met.D.Disk.lawful _ _ c.self.view_is c.self.invariant.stands c.requires.can (ready_ok g c).may c.append.new.self c.as_slice.result.now (body_ok g c) c.append.result (said_ok g c) c.self.invariant.placed c.in_ok-append.was)
 
 pub returns-clause-answer : goal.returns-clause-answer
 returns-clause-answer g c = answer_added g.D.Disk.told g.met.D.Disk.lawful _ _ c.self.view_is c.self.invariant.stands c.requires.can (ready_ok g c).may c.append.new.self c.as_slice.result.now (body_ok g c) c.append.result (said_ok g c) _ c.in_ok-append.was (c.taken.ensures.taken ∙ ap taken (past_ok g c) ∙ took_now c.self.inside.replica.past c.self.inside.came.items)
@@ -121,3 +130,6 @@ returns-clause-crash g c = crash_asked g.D.Disk.told g.met.D.Disk.lawful _ _ c.s
 
 pub returns-clause-disk : goal.returns-clause-disk
 returns-clause-disk g c = runs_added g.D.Disk.told g.met.D.Disk.lawful _ _ c.self.view_is c.self.invariant.stands c.requires.can (ready_ok g c).may c.append.new.self c.as_slice.result.now (body_ok g c) c.append.result (said_ok g c) _ c.in_ok-append.was
+
+pub returns-clause-healthy : goal.returns-clause-healthy
+returns-clause-healthy g c _ = healthy_added g.D.Disk.told g.met.D.Disk.lawful _ _ c.self.view_is c.self.invariant.stands c.requires.can (ready_ok g c).may c.append.new.self c.as_slice.result.now (body_ok g c) c.append.result (said_ok g c) c.in_ok-append.was

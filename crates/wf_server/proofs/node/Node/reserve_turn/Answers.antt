@@ -7,7 +7,7 @@ use Rattle.wf_histories.specs.Histories.{taken}
 use Rattle.wf_steps.specs.Growing.{MayTurn}
 use Rattle.wf_server.specs.Servers.{Server, inputs_of}
 use Rattle.wf_server.specs.Inbox.{AllCame}
-use Rattle.wf_server.specs.Images.{Stands}
+use Rattle.wf_server.specs.Images.{Stands, IsPlaced}
 use Rattle.wf_server.specs.Nodes.{IsReady}
 use Rattle.wf_server.proofs.Inputs.{may_turn}
 use Rattle.wf_server.proofs.Keeping.{node_of, some_ready, view_kept}
@@ -23,7 +23,8 @@ make_ready-requires-clause-may g c =
 pub invariant_of-self-2 : goal.invariant_of-self-2
 invariant_of-self-2 g c =
     let P : Kept g.row.D.Denot → Type 0 = λ k. Stands (g.D.Disk.told k.disk) k.failed c.self.inside.replica.part c.self.inside.replica.past in
-    node_of g.D.Disk.told _ _ _ _ _ _ _ c.make_ready.ensures.part c.make_ready.ensures.past (subst P (sym c.make_ready.ensures.journal) c.self.invariant.stands) c.self.invariant.came_is c.self.invariant.early_is
+    let Q : Kept g.row.D.Denot → Type 0 = λ k. IsPlaced g.D.Disk.told k c.self.inside.replica.part c.self.inside.replica.past in
+    node_of g.D.Disk.told _ _ _ _ _ _ _ c.make_ready.ensures.part c.make_ready.ensures.past (subst P (sym c.make_ready.ensures.journal) c.self.invariant.stands) (subst Q (sym c.make_ready.ensures.journal) c.self.invariant.placed) c.self.invariant.came_is c.self.invariant.early_is
     (some_ready (IsReady c.make_ready.new.journal.room c.make_ready.new.replica c.self.inside.came.items) _ (subst (λ (slots : List (Option Update)). IsReady c.make_ready.new.journal.room c.make_ready.new.replica slots c.in_ok-ready.ready) c.as_slice-came.ensures.value c.in_ok-ready.ensures.ready))
 
 pub returns-clause-kept : goal.returns-clause-kept

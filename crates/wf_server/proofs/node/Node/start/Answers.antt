@@ -4,7 +4,9 @@ use Rattle.wf_journal.specs.declared.fault.StartFault.TheVariants as starts
 use Rattle.wf_server.specs.declared.fault.NodeFault.TheVariants as faults
 use Rattle.wf_server.specs.Starting.{StartFails, unstarted_by}
 use Rattle.wf_server.proofs.Stretches.{runs_more, runs_as}
-use Rattle.wf_server.proofs.Starts.{if_ok, if_err, whole_stretch, start_history, refused_here, strokes_then, start_keeps, start_stretch_refused, unstarted_fails, unstarted_failed}
+use Rattle.wf_journal.specs.Start.{start_strokes}
+use Rattle.wf_server.specs.Starting.{most_on}
+use Rattle.wf_server.proofs.Starts.{fewer_strokes, reopens, stays_shut, if_ok, if_ok_all, if_err, if_err_both, whole_stretch, start_history, refused_here, strokes_then, start_keeps, start_stretch_refused, unstarted_fails, unstarted_failed}
 use Rattle.wf_server.proofs.node.Node.start.Goals as goal
 
 pub returns-in-Ok-clause-history : goal.returns-in-Ok-clause-history
@@ -14,22 +16,43 @@ pub returns-in-Ok-clause-refused : goal.returns-in-Ok-clause-refused
 returns-in-Ok-clause-refused g c = if_err c.of_journal.result _ _ (λ refused h. refused_here c.args.part (g.D.Disk.told c.args.disk) (g.D.Disk.told c.in-Ok.journal.disk) refused.fault c.in-Ok.ensures.kept c.in-Ok.ensures.whole h) c.of_journal.ensures.refused
 
 pub returns-in-Ok-clause-kept : goal.returns-in-Ok-clause-kept
-returns-in-Ok-clause-kept g c = if_err c.of_journal.result _ _ (λ refused s. (whole_stretch c.args.part (g.D.Disk.told c.args.disk) (g.D.Disk.told c.in-Ok.journal.disk) _ _ (g.met.D.Disk.lawful c.in-Ok.journal.disk) c.in-Ok.ensures.kept c.in-Ok.ensures.any_moment c.in-Ok.ensures.plan c.in-Ok.ensures.faults c.in-Ok.ensures.most s).keeps.image) c.of_journal.ensures.stretch_refused
+returns-in-Ok-clause-kept g c = if_err c.of_journal.result _ _ (λ refused s. (whole_stretch c.args.part (g.D.Disk.told c.args.disk) (g.D.Disk.told c.in-Ok.journal.disk) _ _ (g.met.D.Disk.lawful c.in-Ok.journal.disk) c.in-Ok.ensures.kept c.in-Ok.ensures.any_moment c.in-Ok.ensures.plan c.in-Ok.ensures.faults c.in-Ok.ensures.strokes c.in-Ok.ensures.most s).keeps.image) c.of_journal.ensures.stretch_refused
 
 pub returns-in-Ok-clause-crash : goal.returns-in-Ok-clause-crash
-returns-in-Ok-clause-crash g c = if_ok c.of_journal.result _ _ (λ node s. (whole_stretch c.args.part (g.D.Disk.told c.args.disk) (g.D.Disk.told c.in-Ok.journal.disk) _ _ (g.met.D.Disk.lawful c.in-Ok.journal.disk) c.in-Ok.ensures.kept c.in-Ok.ensures.any_moment c.in-Ok.ensures.plan c.in-Ok.ensures.faults c.in-Ok.ensures.most s).keeps.crash) c.of_journal.ensures.stretch
+returns-in-Ok-clause-crash g c = if_ok c.of_journal.result _ _ (λ node s. (whole_stretch c.args.part (g.D.Disk.told c.args.disk) (g.D.Disk.told c.in-Ok.journal.disk) _ _ (g.met.D.Disk.lawful c.in-Ok.journal.disk) c.in-Ok.ensures.kept c.in-Ok.ensures.any_moment c.in-Ok.ensures.plan c.in-Ok.ensures.faults c.in-Ok.ensures.strokes c.in-Ok.ensures.most s).keeps.crash) c.of_journal.ensures.stretch
 
 pub returns-in-Ok-clause-crash_refused : goal.returns-in-Ok-clause-crash_refused
-returns-in-Ok-clause-crash_refused g c = if_err c.of_journal.result _ _ (λ refused s. (whole_stretch c.args.part (g.D.Disk.told c.args.disk) (g.D.Disk.told c.in-Ok.journal.disk) _ _ (g.met.D.Disk.lawful c.in-Ok.journal.disk) c.in-Ok.ensures.kept c.in-Ok.ensures.any_moment c.in-Ok.ensures.plan c.in-Ok.ensures.faults c.in-Ok.ensures.most s).keeps.crash) c.of_journal.ensures.stretch_refused
+returns-in-Ok-clause-crash_refused g c = if_err c.of_journal.result _ _ (λ refused s. (whole_stretch c.args.part (g.D.Disk.told c.args.disk) (g.D.Disk.told c.in-Ok.journal.disk) _ _ (g.met.D.Disk.lawful c.in-Ok.journal.disk) c.in-Ok.ensures.kept c.in-Ok.ensures.any_moment c.in-Ok.ensures.plan c.in-Ok.ensures.faults c.in-Ok.ensures.strokes c.in-Ok.ensures.most s).keeps.crash) c.of_journal.ensures.stretch_refused
 
 pub returns-in-Ok-clause-strokes : goal.returns-in-Ok-clause-strokes
 returns-in-Ok-clause-strokes g c = if_ok c.of_journal.result _ _ (λ node h. strokes_then (g.D.Disk.told c.args.disk) (g.D.Disk.told c.in-Ok.journal.disk) (g.D.Disk.told node.journal.disk) c.in-Ok.ensures.kept c.in-Ok.ensures.strokes h) c.of_journal.ensures.strokes
 
 pub returns-in-Ok-clause-runs : goal.returns-in-Ok-clause-runs
-returns-in-Ok-clause-runs g c = if_ok c.of_journal.result _ _ (λ node s. (whole_stretch c.args.part (g.D.Disk.told c.args.disk) (g.D.Disk.told c.in-Ok.journal.disk) _ _ (g.met.D.Disk.lawful c.in-Ok.journal.disk) c.in-Ok.ensures.kept c.in-Ok.ensures.any_moment c.in-Ok.ensures.plan c.in-Ok.ensures.faults c.in-Ok.ensures.most s).runs) c.of_journal.ensures.stretch
+returns-in-Ok-clause-runs g c = if_ok c.of_journal.result _ _ (λ node s. (whole_stretch c.args.part (g.D.Disk.told c.args.disk) (g.D.Disk.told c.in-Ok.journal.disk) _ _ (g.met.D.Disk.lawful c.in-Ok.journal.disk) c.in-Ok.ensures.kept c.in-Ok.ensures.any_moment c.in-Ok.ensures.plan c.in-Ok.ensures.faults c.in-Ok.ensures.strokes c.in-Ok.ensures.most s).runs) c.of_journal.ensures.stretch
 
 pub returns-in-Ok-clause-runs_refused : goal.returns-in-Ok-clause-runs_refused
-returns-in-Ok-clause-runs_refused g c = if_err c.of_journal.result _ _ (λ refused s. (whole_stretch c.args.part (g.D.Disk.told c.args.disk) (g.D.Disk.told c.in-Ok.journal.disk) _ _ (g.met.D.Disk.lawful c.in-Ok.journal.disk) c.in-Ok.ensures.kept c.in-Ok.ensures.any_moment c.in-Ok.ensures.plan c.in-Ok.ensures.faults c.in-Ok.ensures.most s).runs) c.of_journal.ensures.stretch_refused
+returns-in-Ok-clause-runs_refused g c = if_err c.of_journal.result _ _ (λ refused s. (whole_stretch c.args.part (g.D.Disk.told c.args.disk) (g.D.Disk.told c.in-Ok.journal.disk) _ _ (g.met.D.Disk.lawful c.in-Ok.journal.disk) c.in-Ok.ensures.kept c.in-Ok.ensures.any_moment c.in-Ok.ensures.plan c.in-Ok.ensures.faults c.in-Ok.ensures.strokes c.in-Ok.ensures.most s).runs) c.of_journal.ensures.stretch_refused
+
+pub returns-in-Ok-clause-reopens : goal.returns-in-Ok-clause-reopens
+returns-in-Ok-clause-reopens g c =
+    let old = g.D.Disk.told c.args.disk in
+    let mid = g.D.Disk.told c.in-Ok.journal.disk in
+    if_ok_all c.of_journal.result _ _ _ _
+    (λ node s h k. reopens c.args.part old (g.D.Disk.told node.journal.disk) node.past
+    (whole_stretch c.args.part (g.D.Disk.told c.args.disk) (g.D.Disk.told c.in-Ok.journal.disk) _ _ (g.met.D.Disk.lawful c.in-Ok.journal.disk) c.in-Ok.ensures.kept c.in-Ok.ensures.any_moment c.in-Ok.ensures.plan c.in-Ok.ensures.faults c.in-Ok.ensures.strokes c.in-Ok.ensures.most s).runs
+    (start_history c.args.part old mid c.in-Ok.ensures.kept (λ wanted. wanted ≡ Ok node.past) h)
+    (strokes_then old mid (g.D.Disk.told node.journal.disk) c.in-Ok.ensures.kept c.in-Ok.ensures.strokes k))
+    c.of_journal.ensures.stretch c.of_journal.ensures.history c.of_journal.ensures.strokes
+
+pub returns-in-Ok-clause-stays_shut : goal.returns-in-Ok-clause-stays_shut
+returns-in-Ok-clause-stays_shut g c =
+    let old = g.D.Disk.told c.args.disk in
+    let mid = g.D.Disk.told c.in-Ok.journal.disk in
+    if_err_both c.of_journal.result _ _ _
+    (λ refused s h. stays_shut c.args.part old (g.D.Disk.told refused.disk) refused.fault
+    (whole_stretch c.args.part (g.D.Disk.told c.args.disk) (g.D.Disk.told c.in-Ok.journal.disk) _ _ (g.met.D.Disk.lawful c.in-Ok.journal.disk) c.in-Ok.ensures.kept c.in-Ok.ensures.any_moment c.in-Ok.ensures.plan c.in-Ok.ensures.faults c.in-Ok.ensures.strokes c.in-Ok.ensures.most s).runs
+    (refused_here c.args.part old mid refused.fault c.in-Ok.ensures.kept c.in-Ok.ensures.whole h))
+    c.of_journal.ensures.stretch_refused c.of_journal.ensures.refused
 
 pub returns-in-Err-clause-refused : goal.returns-in-Err-clause-refused
 returns-in-Err-clause-refused g c = λ file at.
@@ -47,6 +70,9 @@ returns-in-Err-clause-runs_refused g c =
     let old = g.D.Disk.told c.args.disk in
     let new = g.D.Disk.told c.in-Err.refused.disk in
     let is : c.from.result ≡ unstarted_by c.in-Err.refused.fault = search (rules, c.from.ensures) in
-    runs_as old new 7 (c.in-Err.refused.fault ≡ starts.DiskFailed) (c.from.result ≡ faults.DiskFailed) (λ e. is ∙ ap unstarted_by e) (λ e. unstarted_failed c.in-Err.refused.fault (sym is ∙ e))
-    (runs_more old new 3 7 (c.in-Err.refused.fault ≡ starts.DiskFailed) (omega arith)
-    (start_stretch_refused c.args.part old new (c.in-Err.refused.fault ≡ starts.DiskFailed) c.in-Err.ensures.kept_refused c.in-Err.ensures.any_moment_refused c.in-Err.ensures.plan_refused c.in-Err.ensures.safe c.in-Err.ensures.cause).runs)
+    runs_as old new (most_on old.image) (c.in-Err.refused.fault ≡ starts.DiskFailed) (c.from.result ≡ faults.DiskFailed) (λ e. is ∙ ap unstarted_by e) (λ e. unstarted_failed c.in-Err.refused.fault (sym is ∙ e))
+    (runs_more old new (start_strokes old.image) (most_on old.image) (c.in-Err.refused.fault ≡ starts.DiskFailed) (fewer_strokes old.image)
+    (start_stretch_refused c.args.part old new c.in-Err.refused.fault c.in-Err.ensures.kept_refused c.in-Err.ensures.any_moment_refused c.in-Err.ensures.plan_refused c.in-Err.ensures.safe c.in-Err.ensures.cause c.in-Err.ensures.one_stroke).runs)
+
+pub returns-in-Err-clause-stays_shut : goal.returns-in-Err-clause-stays_shut
+returns-in-Err-clause-stays_shut g c = stays_shut c.args.part (g.D.Disk.told c.args.disk) (g.D.Disk.told c.in-Err.refused.disk) c.from.result (returns-in-Err-clause-runs_refused g c) (returns-in-Err-clause-refused g c)

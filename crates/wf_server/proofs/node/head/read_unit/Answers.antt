@@ -1,11 +1,11 @@
-use Rattle.std.proofs.Common.{◌≡◌, refl, sym, ap, ◌∙◌, subst}
+use Rattle.std.proofs.Common.{◌≡◌, ◌+◌, ◌≤◌, arith, refl, sym, ap, ◌∙◌, subst}
 use Rattle.std.specs.Prelude.{Result, Ok, Err, IsErrOf, IsErrAnd}
 use Rattle.wf_disk.specs.declared.disk.WriteRefused.{WriteRefused}
 use Rattle.wf_disk.specs.declared.disk.WriteRefused.TheVariants as write
 use Rattle.wf_steps.specs.declared.fault.RecoverFault.TheVariants as recovery
-use Rattle.wf_server.specs.Heads.{Stretch}
-use Rattle.wf_server.proofs.Stretches.{stretch_same, stretch_then}
-use Rattle.wf_server.proofs.Joins.{read_ok, read_err, stretch_ok, stretch_err}
+use Rattle.wf_server.specs.Heads.{Stretch, most_head}
+use Rattle.wf_server.proofs.Stretches.{stretch_same, stretch_more, stretch_then}
+use Rattle.wf_server.proofs.Joins.{open_same, read_ok, read_end, read_err, stretch_ok, stretch_err}
 use Rattle.wf_server.proofs.node.head.read_unit.Given.{Over}
 use Rattle.wf_server.proofs.node.head.read_unit.Goals as goal
 
@@ -25,17 +25,27 @@ returns-in-Ok-clause-stretch g c =
     let old = g.D.Disk.told c.args.journal.now.disk in
     let mid = g.D.Disk.told c.begin.new.journal.disk in
     let new = g.D.Disk.told c.recover.new.journal.disk in
-    stretch_ok c.args.part old new 4 c.recover.result (λ refused. refused.fault ≡ recovery.DiskFailed)
-    (stretch_then c.args.part old mid new 4 0 (IsErrOf c.begin.result write.Failed) (IsErrAnd c.recover.result (λ refused. refused.fault ≡ recovery.DiskFailed))
-    (ok_no_fault c.begin.result c.in-Ok.is) c.in-Ok.ensures.most (g.met.D.Disk.lawful c.begin.new.journal.disk) c.begin.ensures.stretch
-    (stretch_same c.args.part mid new (IsErrAnd c.recover.result (λ refused. refused.fault ≡ recovery.DiskFailed)) (g.met.D.Disk.lawful c.begin.new.journal.disk) c.recover.ensures.same c.recover.ensures.down c.recover.ensures.cause))
+    stretch_ok c.args.part old new (most_head old.image) c.recover.result (λ refused. refused.fault ≡ recovery.DiskFailed)
+    (stretch_more c.args.part old new (most_head old.image + 0) (most_head old.image) (IsErrAnd c.recover.result (λ refused. refused.fault ≡ recovery.DiskFailed)) (omega arith)
+    (stretch_then c.args.part old mid new (most_head old.image) 0 (IsErrOf c.begin.result write.Failed) (IsErrAnd c.recover.result (λ refused. refused.fault ≡ recovery.DiskFailed))
+    (ok_no_fault c.begin.result c.in-Ok.is) c.begin.ensures.stretch.runs.within (g.met.D.Disk.lawful c.begin.new.journal.disk) c.begin.ensures.stretch
+    (stretch_same c.args.part mid new (IsErrAnd c.recover.result (λ refused. refused.fault ≡ recovery.DiskFailed)) (g.met.D.Disk.lawful c.begin.new.journal.disk) c.recover.ensures.same c.recover.ensures.down c.recover.ensures.cause)))
 
 pub returns-in-Ok-clause-stretch_refused : goal.returns-in-Ok-clause-stretch_refused
 returns-in-Ok-clause-stretch_refused g c =
     let old = g.D.Disk.told c.args.journal.now.disk in
     let mid = g.D.Disk.told c.begin.new.journal.disk in
     let new = g.D.Disk.told c.recover.new.journal.disk in
-    stretch_err c.args.part old new 4 c.recover.result (λ refused. refused.fault ≡ recovery.DiskFailed)
-    (stretch_then c.args.part old mid new 4 0 (IsErrOf c.begin.result write.Failed) (IsErrAnd c.recover.result (λ refused. refused.fault ≡ recovery.DiskFailed))
-    (ok_no_fault c.begin.result c.in-Ok.is) c.in-Ok.ensures.most (g.met.D.Disk.lawful c.begin.new.journal.disk) c.begin.ensures.stretch
-    (stretch_same c.args.part mid new (IsErrAnd c.recover.result (λ refused. refused.fault ≡ recovery.DiskFailed)) (g.met.D.Disk.lawful c.begin.new.journal.disk) c.recover.ensures.same c.recover.ensures.down c.recover.ensures.cause))
+    stretch_err c.args.part old new (most_head old.image) c.recover.result (λ refused. refused.fault ≡ recovery.DiskFailed)
+    (stretch_more c.args.part old new (most_head old.image + 0) (most_head old.image) (IsErrAnd c.recover.result (λ refused. refused.fault ≡ recovery.DiskFailed)) (omega arith)
+    (stretch_then c.args.part old mid new (most_head old.image) 0 (IsErrOf c.begin.result write.Failed) (IsErrAnd c.recover.result (λ refused. refused.fault ≡ recovery.DiskFailed))
+    (ok_no_fault c.begin.result c.in-Ok.is) c.begin.ensures.stretch.runs.within (g.met.D.Disk.lawful c.begin.new.journal.disk) c.begin.ensures.stretch
+    (stretch_same c.args.part mid new (IsErrAnd c.recover.result (λ refused. refused.fault ≡ recovery.DiskFailed)) (g.met.D.Disk.lawful c.begin.new.journal.disk) c.recover.ensures.same c.recover.ensures.down c.recover.ensures.cause)))
+
+pub returns-in-Ok-clause-end : goal.returns-in-Ok-clause-end
+returns-in-Ok-clause-end g c =
+    read_end c.args.part (g.D.Disk.told c.args.journal.now.disk) (g.D.Disk.told c.begin.new.journal.disk) c.begin.ensures.stretch.keeps c.begin.ensures.stretch.runs.tells c.in-Ok.ensures.begun.readable c.recover.result (λ r. r.part) (λ r. r.past) (g.D.Disk.told c.recover.new.journal.disk)
+    c.in-Ok.ensures.begun.begun c.recover.ensures.same.image c.recover.ensures.end
+
+pub returns-in-Ok-clause-begun : goal.returns-in-Ok-clause-begun
+returns-in-Ok-clause-begun g c = open_same c.recover.result (g.D.Disk.told c.begin.new.journal.disk) (g.D.Disk.told c.recover.new.journal.disk) c.in-Ok.ensures.begun c.recover.ensures.same

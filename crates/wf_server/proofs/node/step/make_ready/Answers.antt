@@ -15,6 +15,7 @@ returns-clause-ready g c = record {
   may = at_both (λ p h. MayTurn p h (inputs_of c.args.came.now)) c.reserve_turn.ensures.part c.reserve_turn.ensures.past c.requires.may;
   prepared = at_both (λ p h. c.in_ok-ready.ready.prepared ≡ prepared_of p h (inputs_of c.args.came.now)) c.reserve_turn.ensures.part c.reserve_turn.ensures.past c.in_ok-ready.ensures.prepared;
   body = subst (λ (h : History). IsBodyOf (turn_record h c.args.came.now) c.in_ok-ready.ready.body) (sym c.reserve_turn.ensures.past) c.in_ok-ready.ensures.body;
+  short = c.in_ok-ready.ensures.short;
   turn_room = c.in_ok-reserve_turn.ensures.room;
   item_room = c.in_ok-reserve_turn.ensures.items;
   journal_room = subst (λ n. n ≤ c.reserve.new.self.room) c.len.ensures c.in_ok-reserve.ensures.room;

@@ -1,0 +1,5 @@
+mod Sameness
+mod Finding
+mod Walking
+mod Agreed
+mod Sending

@@ -1,0 +1,6 @@
+pub mod Own
+pub mod Same
+pub mod Differing
+pub mod Laws
+pub mod Walks
+pub mod Senders

@@ -1,0 +1,28 @@
+-- The messages of a world stay while it acts.
+use Rattle.std.proofs.Common.{◌≡◌, sym, ap, ap₂, ◌∙◌}
+use Rattle.wf_model.specs.declared.chart.Chart.{Chart}
+use Rattle.wf_model.specs.declared.update.Update.{Update}
+use Rattle.wf_codec.specs.Spelling.{spelling_of}
+use Rattle.wf_parts.specs.Peers.{peers_of}
+use Rattle.wf_views.specs.Relevant.{relevant}
+use Rattle.wf_machine.specs.Machine.{CountingMachine}
+use Rattle.wf_machine.specs.Lines.{Acted, act}
+use Rattle.wf_machine.proofs.Stays.{act_grows, update_on}
+use Rattle.wf_world.specs.Sent.{bytes_of}
+use Rattle.wf_world.specs.Plays.{MessagesStay}
+use Rattle.wf_world.proofs.Following.{act_messages}
+
+pub messages_stay : MessagesStay
+messages_stay s t x r did account =
+    let stands = did.machine.0 in
+    let acted = (act s.chart s.machine stands x).after in
+    let after : acted ≡ t.machine = ap (λ (d : Acted). d.after) did.machine.1 in
+    let sent = act_messages s.chart s.machine stands x in
+    record {
+      more = sent.0;
+      messages = ap (λ (m : CountingMachine). m.messages) (sym after) ∙ sent.1;
+      bytes = λ n y there unit.
+          ap₂ (λ (chart : Chart) (m : CountingMachine). bytes_of chart m y) did.chart (sym after)
+          ∙ ap (λ (update : Update). spelling_of (relevant (peers_of s.chart y.sender) update y.receiver))
+          (update_on s.machine acted (act_grows s.chart s.machine stands x) account s.chart y.sender y.step unit (account.sent n y there));
+    }

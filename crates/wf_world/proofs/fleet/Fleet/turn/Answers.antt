@@ -1,0 +1,59 @@
+use Rattle.std.proofs.Common.{◌≡◌, ◌<◌, length, slice_get, slice_set, Some, sym, subst}
+use Rattle.std.specs.Prelude.{IfOk}
+use Rattle.wf_machine.specs.declared.line.Line.TheVariants as line
+use Rattle.wf_machine.specs.declared.reply.Reply.TheVariants as reply
+use Rattle.wf_world.specs.Fleets.{FleetState, IsFleet, Leads, WearsOne}
+use Rattle.wf_world.specs.contracts.fleet.Fleet.{the_view}
+use Rattle.wf_world.proofs.Results.{if_ok2, if_ok3, read_at}
+use Rattle.wf_world.proofs.Room.{room_early, room_steps, room_journal}
+use Rattle.wf_world.proofs.Asking.{turn_leads, turn_wears}
+use Rattle.wf_world.proofs.fleet.Fleet.turn.Goals as goal
+
+pub turn-requires-clause-early : goal.turn-requires-clause-early
+turn-requires-clause-early c =
+    let v = the_view c.self.inside in
+    let is : IsFleet v = subst IsFleet (sym c.self.view_is) c.requires.fleet in
+    let s = c.index_mut.result.now in
+    let at : slice_get v.slots c.args.unit.0 ≡ Some s = read_at v is c.args.unit.0 s (subst (λ (y : FleetState). c.args.unit.0 < length y.chart.units) (sym c.self.view_is) c.requires.unit) c.index_mut.ensures.value in
+    let at_f : slice_get c.args.self.now.slots c.args.unit.0 ≡ Some s = subst (λ (y : FleetState). slice_get y.slots c.args.unit.0 ≡ Some s) c.self.view_is at in
+    room_early c.args.self.now c.requires.fleet c.args.unit.0 s at_f c.requires.room
+
+pub turn-requires-clause-not_full : goal.turn-requires-clause-not_full
+turn-requires-clause-not_full c =
+    let v = the_view c.self.inside in
+    let is : IsFleet v = subst IsFleet (sym c.self.view_is) c.requires.fleet in
+    let s = c.index_mut.result.now in
+    let at : slice_get v.slots c.args.unit.0 ≡ Some s = read_at v is c.args.unit.0 s (subst (λ (y : FleetState). c.args.unit.0 < length y.chart.units) (sym c.self.view_is) c.requires.unit) c.index_mut.ensures.value in
+    let at_f : slice_get c.args.self.now.slots c.args.unit.0 ≡ Some s = subst (λ (y : FleetState). slice_get y.slots c.args.unit.0 ≡ Some s) c.self.view_is at in
+    room_journal c.args.self.now c.requires.fleet c.args.unit.0 s at_f c.requires.room
+
+pub turn-requires-clause-steps : goal.turn-requires-clause-steps
+turn-requires-clause-steps c =
+    let v = the_view c.self.inside in
+    let is : IsFleet v = subst IsFleet (sym c.self.view_is) c.requires.fleet in
+    let s = c.index_mut.result.now in
+    let at : slice_get v.slots c.args.unit.0 ≡ Some s = read_at v is c.args.unit.0 s (subst (λ (y : FleetState). c.args.unit.0 < length y.chart.units) (sym c.self.view_is) c.requires.unit) c.index_mut.ensures.value in
+    let at_f : slice_get c.args.self.now.slots c.args.unit.0 ≡ Some s = subst (λ (y : FleetState). slice_get y.slots c.args.unit.0 ≡ Some s) c.self.view_is at in
+    room_steps c.args.self.now c.requires.fleet c.args.unit.0 s at_f c.requires.room
+
+pub returns-clause-led : goal.returns-clause-led
+returns-clause-led c =
+    let v = the_view c.self.inside in
+    let is : IsFleet v = subst IsFleet (sym c.self.view_is) c.requires.fleet in
+    let s = c.index_mut.result.now in
+    let at : slice_get v.slots c.args.unit.0 ≡ Some s = read_at v is c.args.unit.0 s (subst (λ (y : FleetState). c.args.unit.0 < length y.chart.units) (sym c.self.view_is) c.requires.unit) c.index_mut.ensures.value in
+    let t = c.turn.new.self in
+    subst (λ (y : FleetState). IfOk c.turn.result (λ r. Leads y (line.Turn c.args.unit) (reply.Turned r) (record v { slots = slice_set v.slots c.args.unit.0 t }))) c.self.view_is
+    (if_ok3 c.turn.result _ _ _ (λ r. Leads v (line.Turn c.args.unit) (reply.Turned r) (record v { slots = slice_set v.slots c.args.unit.0 t })) c.turn.ensures.answer c.turn.ensures.writes c.turn.ensures.goes
+    (λ r answer writes goes. turn_leads v is c.args.unit s at t r answer writes goes))
+
+pub returns-clause-wear : goal.returns-clause-wear
+returns-clause-wear c =
+    let v = the_view c.self.inside in
+    let is : IsFleet v = subst IsFleet (sym c.self.view_is) c.requires.fleet in
+    let s = c.index_mut.result.now in
+    let at : slice_get v.slots c.args.unit.0 ≡ Some s = read_at v is c.args.unit.0 s (subst (λ (y : FleetState). c.args.unit.0 < length y.chart.units) (sym c.self.view_is) c.requires.unit) c.index_mut.ensures.value in
+    let t = c.turn.new.self in
+    subst (λ (y : FleetState). IfOk c.turn.result (λ r. WearsOne c.args.unit.0 y (record v { slots = slice_set v.slots c.args.unit.0 t }))) c.self.view_is
+    (if_ok2 c.turn.result _ _ (λ r. WearsOne c.args.unit.0 v (record v { slots = slice_set v.slots c.args.unit.0 t })) c.turn.ensures.writes c.turn.ensures.goes
+    (λ r writes goes. turn_wears v is c.args.unit s at t writes goes))

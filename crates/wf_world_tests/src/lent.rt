@@ -1,0 +1,48 @@
+//! What a world lends.
+use crate::plays::played;
+use std::test::Fail;
+use wf_model::UnitId;
+
+// Sender, receiver and step of each message that the play sent.
+const SENT: [(u32, u32, u32); 5] = [(1, 0, 1), (0, 1, 1), (0, 1, 2), (1, 0, 2), (1, 0, 3)];
+
+// Unit a's update of step 2, which tells unit b that the event came.
+const TOLD: [u8; 21] = [
+    0x55, 0, 0, 0, 0, 2, //
+    0, 0, 0, 0, 0, 0, 0, 0, 0, 0, //
+    0, 1, 0, 0, 1,
+];
+
+#[test]
+fn messages_are_lent(rt: HostRuntime) -> Result<(), Fail> {
+    let world = played(&rt)?;
+    let messages = world.messages();
+    assert!(rt; messages.len() == SENT.len());
+    for (message, (sender, receiver, step)) in messages.iter().zip(&SENT) {
+        assert!(rt; message.sender == UnitId(*sender));
+        assert!(rt; message.receiver == UnitId(*receiver));
+        assert!(rt; message.step == *step);
+    }
+    Ok(())
+}
+
+#[test]
+fn bytes_are_lent(rt: HostRuntime) -> Result<(), Fail> {
+    let world = played(&rt)?;
+    let told = world.messages().get(2).ok_or("no third message")?;
+    assert!(rt; told.bytes.as_slice() == TOLD.as_slice());
+    Ok(())
+}
+
+#[test]
+fn histories_are_lent(rt: HostRuntime) -> Result<(), Fail> {
+    let world = played(&rt)?;
+    for (unit, admissions, turns) in [(0, 1, 3), (1, 0, 2)] {
+        let history = world.history(UnitId(unit)).ok_or("no unit")?;
+        assert!(rt; history.admissions().len() == admissions);
+        assert!(rt; history.turns().len() == turns);
+    }
+    assert!(rt; world.history(UnitId(2)).is_none());
+    assert!(rt; world.acted() == 14);
+    Ok(())
+}

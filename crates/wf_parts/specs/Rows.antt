@@ -23,11 +23,11 @@ row_of count transitions trans = places count (λ other. names trans.blockers ot
 abbrev pub rows_of : ℕ → List PartTransition → List (List Bool)
 rows_of count transitions = map (row_of count transitions) transitions
 
--- a row for each of the transitions, each wide enough for all of them
+-- a row for each of the transitions, each as narrow as so many allow
 abbrev pub AreRows : List PartTransition → Rows → Type 0
 AreRows transitions (One rows) = (length transitions ≤ 64) × (rows ≡ rows_of 64 transitions)
-AreRows transitions (Four rows) = (length transitions ≤ 256) × (rows ≡ rows_of 256 transitions)
-AreRows transitions (Sixteen rows) = (length transitions ≤ 1024) × (rows ≡ rows_of 1024 transitions)
+AreRows transitions (Four rows) = (64 < length transitions) × (length transitions ≤ 256) × (rows ≡ rows_of 256 transitions)
+AreRows transitions (Sixteen rows) = (256 < length transitions) × (length transitions ≤ 1024) × (rows ≡ rows_of 1024 transitions)
 
 -- the transition and those that block it are numbered as a chart's are
 pub record IsNumbered (trans : PartTransition) : Type 0 where

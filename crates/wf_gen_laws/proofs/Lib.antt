@@ -1,0 +1,4 @@
+mod Moves
+mod Divided
+mod Short
+mod Read

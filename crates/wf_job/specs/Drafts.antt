@@ -1,4 +1,4 @@
--- Which lines of a host's script may stand together.
+-- Of other calls. Which lines of a host's script may stand together.
 use Rattle.std.specs.Prelude.{ℕ, ◌==◌, ◌&&◌, ◌||◌, nat_lt, not, Bool, ◌++◌, List, [], ◌∷◌, length, Option, Some, None, is_some, if◌then◌else◌}
 use Rattle.std.specs.List.{list_all, list_any}
 use Rattle.wf_model.specs.Limits.{max_client_lines}

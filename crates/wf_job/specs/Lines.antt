@@ -1,4 +1,4 @@
--- The lines of a host's script: what the tokens of a line say.
+-- Of other calls. The lines of a host's script: what the tokens of a line say.
 use Rattle.std.specs.Prelude.{ℕ, List, [], ◌∷◌, Option, Some, None, if◌then◌else◌}
 use Rattle.std.specs.Option.{option_map}
 use Rattle.std.specs.Str.{bytes_eq}

@@ -1,4 +1,4 @@
--- The written text of what came of a job.
+-- Of other calls. The written text of what came of a job.
 use Rattle.std.specs.Prelude.{ℕ, ◌++◌, List, flat_map}
 use Rattle.std.specs.Fmt.{decimal}
 use lib.Chars.{codes}

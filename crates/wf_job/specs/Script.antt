@@ -1,4 +1,4 @@
--- A script of a host: the job that it says, or the first line of it outside the grammar.
+-- Of other calls. A script of a host: its job, or its first line outside the grammar.
 use Rattle.std.specs.Prelude.{ℕ, ◌+◌, List, [], ◌∷◌, Option, Some, None, Result, Ok, Err}
 use Rattle.std.specs.Option.{option_map}
 use Rattle.wf_model.specs.Steps.{◌>>=◌}

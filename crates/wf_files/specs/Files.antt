@@ -1,5 +1,5 @@
 -- Of other calls. What a disk over a file tells: how many strokes and failures there were.
-use Rattle.std.specs.Prelude.{ℕ, List, Option, None}
+use Rattle.std.specs.Prelude.{ℕ, ◌≡◌, List, Option, None}
 use Rattle.wf_model.specs.Faults.{one_more}
 use Rattle.wf_disk.specs.Disk.{Told, IsLawful}
 
@@ -21,6 +21,14 @@ failed disk = record disk { clock = one_more disk.clock; faults = one_more disk.
 -- a call that failed and is no stroke
 abbrev pub faulted : OnFile → OnFile
 faulted disk = record disk { faults = one_more disk.faults }
+
+-- a stroke was counted, whatever it did to what is held
+abbrev pub Counts : OnFile → OnFile → Type 0
+Counts old new = (new.clock ≡ (counted old).clock) × (new.faults ≡ old.faults)
+
+-- a stroke that failed was counted, whatever it did to what is held
+abbrev pub Fails : OnFile → OnFile → Type 0
+Fails old new = (new.clock ≡ (failed old).clock) × (new.faults ≡ (failed old).faults)
 
 -- What it tells as a disk: its counts, and no more. Any stroke may fail, and a crash may leave anything. It wants no
 -- memory.

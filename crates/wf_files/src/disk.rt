@@ -1,6 +1,5 @@
 //! A disk over an open file.
-ghost use Rattle.std.specs.Prelude.{◌≡◌, ◌≤◌, ◌<◌, ◌+◌, ◌^◌, ℕ, Option, None, Some, List, length, take, drop, is_some, IsOk, IsErr, IsErrOf, OnOk, IfOk, IfSome};
-ghost use Rattle.wf_disk.specs.Disk.{put_at, Torn, Follows, Within, Only, Elapses, IsSame, IsDown, Strikes, GoesToPlan, HasCause};
+ghost use Rattle.std.specs.Prelude.{◌≡◌, ◌≤◌, ◌<◌, ◌+◌, ◌^◌, length, IsOk, IsErr, OnOk, IfOk, IfSome};
 ghost use Rattle.wf_files.specs.Bytes.{IsRead, IsPut};
 ghost use Rattle.wf_model.specs.Faults.{last_count};
 
@@ -31,7 +30,7 @@ impl<F: ByteFile> Model for FileDisk<F> {
 }
 
 impl<F: ByteFile> FileDisk<F> {
-    ghost use Rattle.wf_files.specs.Files.{counted, failed, faulted};
+    ghost use Rattle.wf_files.specs.Files.{counted, failed, faulted, Counts, Fails};
 
     /// The disk of a file, which no call has failed yet.
     pub fn new(file: F) -> FileDisk<F>
@@ -73,23 +72,14 @@ impl<F: ByteFile> FileDisk<F> {
         self.faults = self.faults.saturating_add(1);
         Err(Failed)
     }
-}
 
-impl<F: ByteFile> Disk for FileDisk<F> {
-    ghost use Rattle.wf_files.specs.Files.{told_of, lawful_file};
-
-    ghost told = { told_of };
-
-    ghost lawful = { lawful_file };
-
-    fn size(&mut self) -> Result<u64, Failed>
-        ensures value { IfOk result (λ n. IfSome (told_of self.old).image (λ file. n ≡ length file)) }
-        ensures same { IsSame (told_of self.old) (told_of self.new) }
-        ensures down { IsErr result → IsDown (told_of self.old) }
-        ensures cause { HasCause (told_of self.old) (told_of self.new) (IsErr result) }
-
+    /// How many bytes the file has. A failure is counted, and is no stroke.
+    pub fn bytes_count(&mut self) -> Result<u64, Failed>
         ensures count { IfOk result (λ n. IfSome self.old.held (λ held. n ≡ length held)) }
         ensures held { self.new.held ≡ self.old.held }
+        ensures same { IsOk result → self.new ≡ self.old }
+        ensures fault { IsErr result → self.new ≡ faulted self.old }
+        ensures later { self.old.faults ≤ self.new.faults }
     {
         match self.file.size() {
             Ok(size) => Ok(size),
@@ -100,15 +90,13 @@ impl<F: ByteFile> Disk for FileDisk<F> {
         }
     }
 
-    fn read_at(&mut self, at: u64, into: &mut [u8]) -> Result<(), Failed>
-        requires inside { IfSome (told_of self.old).image (λ file. at + length into.old ≤ length file) }
-        ensures bytes { OnOk result (IfSome (told_of self.old).image (λ file. into.new ≡ take (length into.old) (drop at file))) }
-        ensures same { IsSame (told_of self.old) (told_of self.new) }
-        ensures down { IsErr result → IsDown (told_of self.old) }
-        ensures cause { HasCause (told_of self.old) (told_of self.new) (IsErr result) }
-
+    /// Reads as many bytes as are wanted, from this place on. A failure is counted, and is no stroke.
+    pub fn read_bytes(&mut self, at: u64, into: &mut [u8]) -> Result<(), Failed>
         ensures given { OnOk result (IsRead self.old.held at (length into.old) into.new) }
         ensures held { self.new.held ≡ self.old.held }
+        ensures same { IsOk result → self.new ≡ self.old }
+        ensures fault { IsErr result → self.new ≡ faulted self.old }
+        ensures later { self.old.faults ≤ self.new.faults }
     {
         match read_whole(&mut self.file, at, into) {
             Ok(()) => Ok(()),
@@ -119,42 +107,53 @@ impl<F: ByteFile> Disk for FileDisk<F> {
         }
     }
 
-    #[tactic(auto, using(crate::proofs::Plans::goes))]
-    fn write_at(&mut self, at: u64, bytes: &[u8]) -> Result<(), WriteRefused>
-        requires begins { IfSome (told_of self.old).image (λ file. at ≤ length file) }
+    /// Writes all bytes from this place on, as one stroke.
+    pub fn put_bytes(&mut self, at: u64, bytes: &[u8]) -> Result<(), Failed>
         requires ends { at + length bytes.now < 2 ^ 63 }
-        ensures written { OnOk result (IfSome (told_of self.old).image (λ file. (told_of self.new).image ≡ Some (put_at file at bytes.now))) }
-        ensures tells { is_some (told_of self.new).image ≡ is_some (told_of self.old).image }
-        ensures no_memory { IsErrOf result WriteRefused.NoMemory → IsSame (told_of self.old) (told_of self.new) }
-        ensures crash { Follows (Torn at (length bytes.now)) (told_of self.old).may_leave (told_of self.new).may_leave }
-        ensures time { Elapses (told_of self.old) (told_of self.new) }
-        ensures stroke { Strikes (told_of self.old) (told_of self.new) (IsOk result) (IsErrOf result WriteRefused.Failed) }
-        ensures plan { GoesToPlan (told_of self.old) (told_of self.new) (IsOk result) (IsErrOf result WriteRefused.Failed) }
-        ensures room { (writes rest : ℕ) → (told_of self.old).has_room (writes + 1) (rest + length bytes.now) →
-            (IsErrOf result WriteRefused.NoMemory → ⊥) × (told_of self.new).has_room writes rest }
-        ensures cause { HasCause (told_of self.old) (told_of self.new) (IsErrOf result WriteRefused.Failed) }
-
         ensures put { OnOk result (IsPut self.old.held self.new.held at bytes.now) }
+        ensures done { OnOk result (Counts self.old self.new × (self.old.clock < last_count)) }
+        ensures failed { IsErr result → Fails self.old self.new }
+        ensures range { (self.old.clock ≤ last_count) × (self.old.faults ≤ last_count) }
     {
         let done = write_whole(&mut self.file, at, bytes);
-        self.stroke(done)?;
+        self.stroke(done)
+    }
+
+    /// Makes what was written stay, as one stroke.
+    pub fn sync_bytes(&mut self) -> Result<(), Failed>
+        ensures held { self.new.held ≡ self.old.held }
+        ensures done { OnOk result (Counts self.old self.new × (self.old.clock < last_count)) }
+        ensures failed { IsErr result → Fails self.old self.new }
+        ensures range { (self.old.clock ≤ last_count) × (self.old.faults ≤ last_count) }
+    {
+        let done = self.file.sync();
+        self.stroke(done)
+    }
+}
+
+impl<F: ByteFile> Disk for FileDisk<F> {
+    ghost use Rattle.wf_files.specs.Files.{told_of, lawful_file};
+
+    ghost told = { told_of };
+
+    ghost lawful = { lawful_file };
+
+    fn size(&mut self) -> Result<u64, Failed> {
+        self.bytes_count()
+    }
+
+    fn read_at(&mut self, at: u64, into: &mut [u8]) -> Result<(), Failed> {
+        self.read_bytes(at, into)
+    }
+
+    #[tactic(auto, using(crate::proofs::Plans::goes))]
+    fn write_at(&mut self, at: u64, bytes: &[u8]) -> Result<(), WriteRefused> {
+        self.put_bytes(at, bytes)?;
         Ok(())
     }
 
     #[tactic(auto, using(crate::proofs::Plans::goes))]
-    fn sync(&mut self) -> Result<(), Failed>
-        ensures synced { OnOk result (IfSome (told_of self.old).image (λ file. Only file (told_of self.new).may_leave)) }
-        ensures image { (told_of self.new).image ≡ (told_of self.old).image }
-        ensures crash { Within (told_of self.new).may_leave (told_of self.old).may_leave }
-        ensures time { Elapses (told_of self.old) (told_of self.new) }
-        ensures stroke { Strikes (told_of self.old) (told_of self.new) (IsOk result) (IsErr result) }
-        ensures plan { GoesToPlan (told_of self.old) (told_of self.new) (IsOk result) (IsErr result) }
-        ensures room { (writes bytes : ℕ) → (told_of self.old).has_room writes bytes → (told_of self.new).has_room writes bytes }
-        ensures cause { HasCause (told_of self.old) (told_of self.new) (IsErr result) }
-
-        ensures held { self.new.held ≡ self.old.held }
-    {
-        let done = self.file.sync();
-        self.stroke(done)
+    fn sync(&mut self) -> Result<(), Failed> {
+        self.sync_bytes()
     }
 }

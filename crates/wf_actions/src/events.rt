@@ -3,7 +3,7 @@ ghost use Rattle.std.specs.Prelude.{◌≡◌, ◌↔◌, ℕ, map, flat_map, Co
 ghost use Rattle.std.specs.List.Sorted.{IsStrictlyIncreasing};
 ghost use Rattle.wf_actions.specs.Events.{numbers_of};
 
-use crate::joined::joined;
+use crate::joined::concatenation;
 use std::alloc::Global;
 use wf_model::{EventId, List, NoMemory};
 
@@ -15,7 +15,7 @@ pub fn raised(alloc: Global, lists: &[List<EventId>]) -> Result<List<EventId>, N
     ensures ascends { IfOk result (λ events. IsStrictlyIncreasing (numbers_of events)) }
     ensures union { IfOk result (λ events. (e : ℕ) → Contains (numbers_of events) e ↔ Contains (numbers_of (flat_map (λ list. list) lists.now)) e) }
 {
-    let all = joined(alloc, lists)?;
+    let all = concatenation(alloc, lists)?;
     let mut numbers = numbers(alloc, all.as_slice())?;
     numbers.sort_unstable();
     numbers.dedup();

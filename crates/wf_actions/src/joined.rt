@@ -5,7 +5,7 @@ use std::alloc::Global;
 use wf_model::{List, NoMemory};
 
 // The entries of all the lists. In linear time.
-pub(crate) fn joined<T: Copy>(alloc: Global, lists: &[List<T>]) -> Result<List<T>, NoMemory>
+pub(crate) fn concatenation<T: Copy>(alloc: Global, lists: &[List<T>]) -> Result<List<T>, NoMemory>
     ensures { IfOk result (λ all. all ≡ flat_map (λ list. list) lists.now) }
 {
     let mut all = List::new(alloc);

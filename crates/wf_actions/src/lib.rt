@@ -5,8 +5,8 @@
 //!   transition the last. Raised events ascend, each once; starts go by transition and place. Laws
 //!   say that what the fired transitions do, put together so, are the effects of the step.
 //! - Doesn't say: that the lists which it is given are those of a step.
-//! - A caller: `wf_io_tests`. No command calls it; its definition of which write stays is cited by
-//!   the views of `wf_views`.
+//! - A caller: `wf_updates` asks which of two writes stays. No command calls the others; the
+//!   definition of which write stays is cited by the views of `wf_views`.
 //! - A change of which write wins begins here, and in `specs/Effects.antt` of `wf_semantics`.
 #![tactic(auto)]
 
@@ -22,4 +22,4 @@ pub use laws::{
     union_is_one, winner_goes_by_rule,
 };
 pub use order::starts;
-pub use writes::merge_writes;
+pub use writes::{merge_writes, winning_write};

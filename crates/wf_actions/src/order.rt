@@ -3,7 +3,7 @@ ghost use Rattle.std.specs.Prelude.{◌≡◌, ℕ, filter, flat_map, IfOk};
 ghost use Rattle.std.specs.List.Sorted.{IsSortedByKey};
 ghost use Rattle.wf_actions.specs.Order.{place_of, place_cmp, is_at};
 
-use crate::joined::joined;
+use crate::joined::concatenation;
 use std::alloc::Global;
 use wf_model::{List, NoMemory, StartAt};
 
@@ -15,7 +15,7 @@ pub fn starts(alloc: Global, lists: &[List<StartAt>]) -> Result<List<StartAt>, N
     ensures ordered { IfOk result (λ starts. IsSortedByKey place_of place_cmp starts) }
     ensures kept { IfOk result (λ starts. (t place : ℕ) → filter (is_at t place) starts ≡ filter (is_at t place) (flat_map (λ list. list) lists.now)) }
 {
-    let mut all = joined(alloc, lists)?.into_vec();
+    let mut all = concatenation(alloc, lists)?.into_vec();
     all.sort_by_key(|start| (start.trans.0, start.place))?;
     Ok(List::from_vec(all))
 }

@@ -20,12 +20,12 @@ pub fn merge_writes(alloc: Global, into: &mut List<Write>, more: &[Write]) -> Re
     let mut all = List::from_slice(alloc, into.as_slice())?;
     all.append(more)?;
     let winners = winners(alloc, all.as_slice())?;
-    *into = present(alloc, winners.as_slice())?;
+    *into = present_writes(alloc, winners.as_slice())?;
     Ok(())
 }
 
-// The write that stays where `write` comes after `best`.
-fn over(best: Option<Write>, write: Write) -> Write
+/// The write that stays if `write` comes after `best`.
+pub fn winning_write(best: Option<Write>, write: Write) -> Write
     ensures { Some result ≡ over best write }
 {
     match best {
@@ -53,13 +53,13 @@ fn winners(alloc: Global, writes: &[Write]) -> Result<Vec<Option<Write>>, NoMemo
     let mut best: Vec<Option<Write>> = vec![in alloc; None; past]?;
     for write in writes {
         let place = write.var.0 as usize;
-        best[place] = Some(over(best[place], *write));
+        best[place] = Some(winning_write(best[place], *write));
     }
     Ok(best)
 }
 
 // The writes that there are, in order.
-fn present(alloc: Global, slots: &[Option<Write>]) -> Result<List<Write>, NoMemory>
+fn present_writes(alloc: Global, slots: &[Option<Write>]) -> Result<List<Write>, NoMemory>
     ensures { IfOk result (λ writes. writes ≡ filter_map (λ slot. slot) slots.now) }
 {
     let mut writes = List::new(alloc);

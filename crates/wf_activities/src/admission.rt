@@ -41,7 +41,10 @@ pub fn is_act_at(chart: &Chart, unit: UnitId, act: ActId) -> bool
 }
 
 /// The answer to a completion, from the answer of its item and from whether that is pending: a pending item counts as closed.
-pub fn after(answer: Result<(), OuterFault>, pending: bool) -> Result<(), OuterFault>
+pub fn answer_unless_pending(
+    answer: Result<(), OuterFault>,
+    pending: bool,
+) -> Result<(), OuterFault>
     ensures { result ≡ unless_pending answer pending }
 {
     match answer {

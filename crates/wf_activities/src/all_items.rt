@@ -46,7 +46,7 @@ impl AllItems {
     {
         let chart = checked.chart();
         let units = tables::no_items(alloc, chart)?;
-        let wanted = tables::wanted(alloc, chart)?;
+        let wanted = tables::wanted_outputs(alloc, chart)?;
         Ok(AllItems { units, wanted })
     }
 
@@ -73,7 +73,7 @@ impl AllItems {
 
     /// For each activity, how many of its items are open once these entries have closed theirs. Grows with the activities and
     /// the entries, and not with the items.
-    pub fn open_then(
+    pub fn open_counts_then(
         &self,
         alloc: Global,
         chart: &Chart,
@@ -84,7 +84,7 @@ impl AllItems {
         requires come { IsTrue (may_come chart.now (items_at self.now) entries.now) }
         ensures { IfOk result (λ counts. counts ≡ map (open_now chart.now (items_at self.now) entries.now) (range_with_len 0 (length chart.now.acts))) }
     {
-        completions::open_then(alloc, chart, self.units.as_slice(), entries)
+        completions::open_counts_then(alloc, chart, self.units.as_slice(), entries)
     }
 
     /// Closes the items that the entries complete, adds the starts as items of this step, and gives each start with the number
@@ -107,7 +107,7 @@ impl AllItems {
         ensures of { AreOf chart.now self.new }
         ensures err { OnErr result (self.new ≡ self.old) }
     {
-        let numbers = numbers::numbered(alloc, chart, self.units.as_slice(), starts)?;
+        let numbers = numbers::item_numbers(alloc, chart, self.units.as_slice(), starts)?;
         growing::reserve(&mut self.units, numbers.lengths.as_slice())?;
         completions::close_completed(&mut self.units, entries);
         growing::grow(&mut self.units, chart, step, starts);
@@ -134,6 +134,6 @@ impl AllItems {
         let items = &self.units[unit.0 as usize];
         let wanted = &self.wanted.as_slice()[act.0 as usize];
         let answer = items.may_complete(item, act, outputs, wanted.as_slice());
-        admission::after(answer, pending)
+        admission::answer_unless_pending(answer, pending)
     }
 }

@@ -12,7 +12,7 @@ use std::alloc::Global;
 use wf_model::{ActId, Chart, Entry, List, NoMemory, Outer, UnitId};
 
 // The activity of which an entry completes an item, if it is one of the entry's unit.
-fn completed(chart: &Chart, entry: &Entry) -> Option<ActId>
+fn completion_of(chart: &Chart, entry: &Entry) -> Option<ActId>
     ensures value { result ≡ completed_at chart.now entry.now.unit.0 entry.now.outer }
     ensures known { IfSome result (λ a. a.0 < length chart.now.acts) }
 {
@@ -44,7 +44,7 @@ pub fn done_counts(alloc: Global, chart: &Chart, entries: &[Entry]) -> Result<Ve
 {
     let mut counts = zeros(alloc, chart)?;
     for entry in entries {
-        if let Some(act) = completed(chart, entry) {
+        if let Some(act) = completion_of(chart, entry) {
             counts[act.0 as usize] += 1;
         }
     }
@@ -62,7 +62,7 @@ fn open_at(units: &[Items], act: ActId, unit: UnitId, done: usize) -> u32
 
 /// For each activity, how many of its items are open once these entries have closed theirs. Grows with the activities and the
 /// entries.
-pub fn open_then(
+pub fn open_counts_then(
     alloc: Global,
     chart: &Chart,
     units: &[Items],
@@ -82,7 +82,7 @@ pub fn open_then(
 }
 
 /// For each activity, whether these entries complete an item of it at its unit. Grows with the activities and the entries.
-pub fn done_in(alloc: Global, chart: &Chart, entries: &[Entry]) -> Result<List<bool>, NoMemory>
+pub fn done_bits(alloc: Global, chart: &Chart, entries: &[Entry]) -> Result<List<bool>, NoMemory>
     ensures { IfOk result (λ bits. bits ≡ map (done_now chart.now entries.now) (range_with_len 0 (length chart.now.acts))) }
 {
     let counts = done_counts(alloc, chart, entries)?;

@@ -21,8 +21,9 @@ mod outputs;
 mod starts;
 mod tables;
 
+pub use admission::is_event_at;
 pub use all_items::AllItems;
-pub use completions::done_in;
+pub use completions::done_bits;
 pub use items::Items;
 pub use laws::{
     closed_stays_closed, closes_one, completes_by_admission, counts_open_items, grows_by_step,

@@ -48,7 +48,7 @@ pub struct Numbers {
 }
 
 /// Numbers the items of these starts. Grows with the units and the starts.
-pub fn numbered(
+pub fn item_numbers(
     alloc: Global,
     chart: &Chart,
     units: &[Items],

@@ -25,7 +25,7 @@ fn with_sorts(
 }
 
 /// By activity: the variables that a completion gives, each with its sort. Grows with the activities and their outputs.
-pub fn wanted(alloc: Global, chart: &Chart) -> Result<List<List<(VarId, Sort)>>, NoMemory>
+pub fn wanted_outputs(alloc: Global, chart: &Chart) -> Result<List<List<(VarId, Sort)>>, NoMemory>
     ensures { IfOk result (λ table. table ≡ wanted_of chart.now) }
 {
     let mut table = List::new(alloc);

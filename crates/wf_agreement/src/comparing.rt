@@ -36,7 +36,7 @@ fn all_updates(
     Ok(units)
 }
 
-fn larger(one: usize, other: usize) -> usize
+fn larger_of(one: usize, other: usize) -> usize
     ensures { result ≡ max one other }
 {
     if one < other { other } else { one }
@@ -48,7 +48,7 @@ fn most_taken(histories: &[&History]) -> usize
 {
     let mut most = 0;
     for history in histories {
-        most = larger(most, history.turns().len());
+        most = larger_of(most, history.turns().len());
     }
     most
 }
@@ -64,7 +64,7 @@ fn inputs_at(history: &History, at: usize) -> &[Update]
 }
 
 // What the sender of this input sends the reader for it, nothing if the sender hasn't come so far.
-fn sent(
+fn sent_update(
     alloc: Global,
     parts: &[&Part],
     units: &[List<Update>],
@@ -105,7 +105,7 @@ fn first_in_turn(
     ensures { (part : ℕ → PartData) (h : ℕ → Past) → AreSenders (length parts.now) parts.now units.now part h → IfOk result (λ found. found ≡ told part h (first_of part h (map (read_by reader.0) inputs.now))) }
 {
     for kept in inputs {
-        let given = sent(alloc, parts, units, reader, kept)?;
+        let given = sent_update(alloc, parts, units, reader, kept)?;
         if !is_sent(kept, &given) {
             return Ok(Agreement::Differ {
                 reader,

@@ -104,7 +104,7 @@ impl Walk {
     }
 
     // After all Turns.
-    fn through(alloc: Global, part: &Part, history: &History) -> Result<Walk, NoMemory>
+    fn to_end(alloc: Global, part: &Part, history: &History) -> Result<Walk, NoMemory>
         requires { IsMade part.now history.now.past }
         ensures { IfOk result (λ walk. walk ≡ walk_at part.now history.now.past (taken history.now.past)) }
     {
@@ -125,7 +125,7 @@ pub fn own_updates(alloc: Global, part: &Part, history: &History) -> Result<List
     requires { IsMade part.now history.now.past }
     ensures { IfOk result (λ updates. updates ≡ own_updates part.now history.now.past) }
 {
-    let walk = Walk::through(alloc, part, history)?;
+    let walk = Walk::to_end(alloc, part, history)?;
     let Walk { updates, .. } = walk;
     Ok(updates)
 }
@@ -139,7 +139,7 @@ pub fn updates_and_next(
     requires { IsMade part.now history.now.past }
     ensures { IfOk result (λ updates. updates ≡ updates_to part.now history.now.past (taken history.now.past + 1)) }
 {
-    let walk = Walk::through(alloc, part, history)?;
+    let walk = Walk::to_end(alloc, part, history)?;
     let Walk {
         mut updates,
         next,

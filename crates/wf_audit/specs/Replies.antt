@@ -5,7 +5,6 @@ use lib.Chars.{codes}
 use Rattle.wf_model.specs.declared.ids.ActId.{ActId}
 use Rattle.wf_model.specs.declared.ids.EventId.{EventId}
 use Rattle.wf_model.specs.declared.ids.StateId.{StateId}
-use Rattle.wf_model.specs.declared.ids.TransId.{TransId}
 use Rattle.wf_model.specs.declared.value.Val.{Val}
 use Rattle.wf_model.specs.declared.value.Val.TheVariants as v
 use Rattle.wf_model.specs.declared.chart.Chart.{Chart}
@@ -13,6 +12,7 @@ use Rattle.wf_model.specs.declared.outer.Output.{Output}
 use Rattle.wf_model.specs.declared.outer.OuterFault.{OuterFault}
 use Rattle.wf_model.specs.declared.outer.OuterFault.TheVariants.{WrongUnit, NoItem, AlreadyDone, WrongOutput}
 use Rattle.wf_words.specs.Names.{act_name, event_name, state_name, var_name}
+use Rattle.wf_words.specs.Transitions.{trans_list}
 use Rattle.wf_model.specs.declared.step_notes.StepNotes.{StepNotes}
 use Rattle.wf_audit.specs.declared.reply.Reply.{Reply}
 use Rattle.wf_audit.specs.declared.reply.Reply.TheVariants as reply
@@ -24,10 +24,6 @@ abbrev pub value_text : Val → List ℕ
 value_text (v.Bool b) = if b then codes "true" else codes "false"
 value_text (v.Int z) = signed_decimal z
 value_text (v.Text t) = 34 ∷ t ++ 34 ∷ []
-
--- ` tN` for each transition
-abbrev pub fired_text : List TransId → List ℕ
-fired_text fired = flat_map (λ t. codes " t" ++ decimal t.0) fired
 
 -- ` A#n` for each start: the activity's name and the item's number
 abbrev pub starts_text : Chart → List (ActId × ℕ) → List ℕ
@@ -56,7 +52,7 @@ fault_text WrongOutput = codes "wrong output"
 -- what a step did
 abbrev pub step_text : Chart → ℕ → StepNotes → List ℕ
 step_text chart step notes =
-    codes "step " ++ decimal step ++ codes " fired" ++ fired_text notes.fired ++ codes " starts" ++ starts_text chart notes.starts
+    codes "step " ++ decimal step ++ codes " fired" ++ trans_list notes.fired ++ codes " starts" ++ starts_text chart notes.starts
 
 -- the steps that were taken, the states that are in, and the variables
 unfoldable pub shown_text : Chart → ℕ → List StateId → List Output → List ℕ

@@ -1,6 +1,5 @@
 //! The central run of a script.
 ghost use Rattle.std.specs.Prelude.{◌≡◌, ◌≤◌, ◌<◌, ◌+◌, length, IfOk, OnOk};
-ghost use Rattle.wf_model.specs.Accepted.{IsAccepted};
 ghost use Rattle.wf_model.specs.Limits.{max_steps, max_lines, max_report};
 ghost use Rattle.wf_central.specs.Kept.{central_of, IsOf};
 ghost use Rattle.wf_audit.specs.CentralText as spec;
@@ -11,7 +10,7 @@ use crate::script::CentralLine;
 use std::alloc::Global;
 use wf_central::{CentralRun, CentralState};
 use wf_model::limits::MAX_REPORT;
-use wf_model::{Bytes, Chart, Checked, List, NoMemory, OuterFault, Output, StateId, VarId};
+use wf_model::{Bytes, Checked, List, NoMemory, OuterFault, Output, StateId, VarId};
 
 /// Why a run has no text.
 #[derive(Clone, Copy)]
@@ -36,15 +35,14 @@ impl From<NoMemory> for RunFault {
 // The states that are in, ascending.
 fn states_in(
     alloc: Global,
-    chart: &Chart,
+    checked: &Checked,
     central: &CentralState,
 ) -> Result<List<StateId>, NoMemory>
-    requires accepted { IsAccepted chart.now }
-    requires of { IsOf chart.now central.now }
-    ensures { IfOk result (λ states. states ≡ spec.states_in chart.now (central_of chart.now central.now)) }
+    requires { IsOf checked.now central.now }
+    ensures { IfOk result (λ states. states ≡ spec.states_in checked.now (central_of checked.now central.now)) }
 {
     let mut states = List::new(alloc);
-    for s in 0..chart.states.len() {
+    for s in 0..checked.chart().states.len() {
         let id = StateId(s as u32);
         if central.is_in(id) {
             states.push(id)?;
@@ -54,13 +52,16 @@ fn states_in(
 }
 
 // The variables with their values, in order.
-fn vars_of(alloc: Global, chart: &Chart, central: &CentralState) -> Result<List<Output>, NoMemory>
-    requires accepted { IsAccepted chart.now }
-    requires of { IsOf chart.now central.now }
-    ensures { IfOk result (λ vars. vars ≡ spec.vars_of (central_of chart.now central.now)) }
+fn vars_of(
+    alloc: Global,
+    checked: &Checked,
+    central: &CentralState,
+) -> Result<List<Output>, NoMemory>
+    requires { IsOf checked.now central.now }
+    ensures { IfOk result (λ vars. vars ≡ spec.vars_of (central_of checked.now central.now)) }
 {
     let mut vars = List::new(alloc);
-    for x in 0..chart.vars.len() {
+    for x in 0..checked.chart().vars.len() {
         let var = VarId(x as u32);
         let val = central.var(var);
         vars.push(Output { var, val })?;
@@ -69,20 +70,19 @@ fn vars_of(alloc: Global, chart: &Chart, central: &CentralState) -> Result<List<
 }
 
 // The sight of a state.
-fn sight(alloc: Global, chart: &Chart, central: &CentralState) -> Result<Reply, NoMemory>
-    requires accepted { IsAccepted chart.now }
-    requires of { IsOf chart.now central.now }
-    ensures { IfOk result (λ reply. reply ≡ spec.sight_of chart.now (central_of chart.now central.now)) }
+fn sight(alloc: Global, checked: &Checked, central: &CentralState) -> Result<Reply, NoMemory>
+    requires { IsOf checked.now central.now }
+    ensures { IfOk result (λ reply. reply ≡ spec.sight_of checked.now (central_of checked.now central.now)) }
 {
     Ok(Reply::Central {
         taken: central.taken(),
-        states: states_in(alloc, chart, central)?,
-        vars: vars_of(alloc, chart, central)?,
+        states: states_in(alloc, checked, central)?,
+        vars: vars_of(alloc, checked, central)?,
         raised: List::from_slice(alloc, central.raised())?,
     })
 }
 
-fn answered(answer: Result<(), OuterFault>) -> Reply
+fn admission_reply(answer: Result<(), OuterFault>) -> Reply
     ensures { result ≡ spec.answer answer }
 {
     match answer {
@@ -109,7 +109,7 @@ fn reply_to(
     match line {
         CentralLine::Outer { unit, outer } => {
             let answer = run.admit(alloc, checked, *unit, outer)?;
-            Ok(answered(answer))
+            Ok(admission_reply(answer))
         }
         CentralLine::Step => {
             let notes = run.step(alloc, checked)?;
@@ -118,7 +118,7 @@ fn reply_to(
                 notes,
             })
         }
-        CentralLine::Show => sight(alloc, checked.chart(), run.state()),
+        CentralLine::Show => sight(alloc, checked, run.state()),
     }
 }
 

@@ -7,9 +7,9 @@ use itoa::Buffer;
 use std::alloc::Global;
 use wf_model::{
     ActId, Bytes, Chart, Checked, EventId, List, NoMemory, OuterFault, Output, StateId, StepNotes,
-    TransId, Val,
+    Val,
 };
-use wf_words::{act_name, append_number, event_name, state_name, var_name};
+use wf_words::{act_name, add_transitions, append_number, event_name, state_name, var_name};
 
 /// The reply to a line of a script.
 #[derive(Drop)]
@@ -53,16 +53,6 @@ fn append_value(text: &mut Bytes, value: &Val) -> Result<(), NoMemory>
             text.push(b'"')
         }
     }
-}
-
-fn append_fired(text: &mut Bytes, fired: &[TransId]) -> Result<(), NoMemory>
-    ensures { OnOk result (text.new ≡ text.old ++ spec.fired_text fired.now) }
-{
-    for transition in fired {
-        text.append(b" t")?;
-        append_number(text, transition.0.into())?;
-    }
-    Ok(())
 }
 
 fn append_starts(text: &mut Bytes, chart: &Chart, starts: &[(ActId, u32)]) -> Result<(), NoMemory>
@@ -134,7 +124,7 @@ fn append_step(
     text.append(b"step ")?;
     append_number(text, step.into())?;
     text.append(b" fired")?;
-    append_fired(text, notes.fired.as_slice())?;
+    add_transitions(text, notes.fired.as_slice())?;
     text.append(b" starts")?;
     append_starts(text, chart, notes.starts.as_slice())
 }

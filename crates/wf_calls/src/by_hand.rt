@@ -25,7 +25,7 @@ enum Change {
     Name(&'static [u8]),
 }
 
-fn changed(alloc: Global, change: Change) -> Result<Chart, Fail> {
+fn changed_chart(alloc: Global, change: Change) -> Result<Chart, Fail> {
     let mut chart = read_chart(alloc, SMALL).ok().ok_or("no chart")?;
     match change {
         Change::Transition(source) => chart.transitions.push(Transition {
@@ -88,7 +88,7 @@ fn rules_that_no_text_breaks(rt: HostRuntime) -> Result<(), Fail> {
         ),
     ];
     for (change, wanted) in rows {
-        let chart = changed(rt.alloc(), change)?;
+        let chart = changed_chart(rt.alloc(), change)?;
         let line = fault_line(rt.alloc(), &chart)?;
         assert_eq!(rt; line.as_slice(), wanted.as_bytes());
     }

@@ -10,7 +10,7 @@ use wf_print::print_chart;
 use wf_text::read_chart;
 
 /// The canonical text of the chart that the text means.
-fn printed(alloc: Global, text: &[u8]) -> Result<Bytes, Fail>
+fn canonical_text(alloc: Global, text: &[u8]) -> Result<Bytes, Fail>
     requires { length text.now ≤ max_input }
 {
     let chart = read_chart(alloc, text).ok().ok_or("no chart")?;
@@ -49,10 +49,10 @@ from A to D on fault if ((n >= 7) = (w != \"x\"));
 ";
 
 #[test]
-fn canonical(rt: HostRuntime) -> Result<(), Fail> {
+fn canonical_texts_are_printed(rt: HostRuntime) -> Result<(), Fail> {
     let rows = [(SINGLE, FIVE_LINES), (CANONICAL, CANONICAL)];
     for (text, wanted) in rows {
-        let found = printed(rt.alloc(), text.as_bytes())?;
+        let found = canonical_text(rt.alloc(), text.as_bytes())?;
         assert_eq!(rt; found.as_slice(), wanted.as_bytes());
     }
     Ok(())

@@ -18,7 +18,7 @@ use crate::pending::completes_again;
 use crate::snapshot::{self, StepSnapshot};
 use std::alloc::Global;
 use std::marker::Model;
-use wf_activities::{AllItems, done_in};
+use wf_activities::{AllItems, done_bits};
 use wf_model::{
     Chart, Checked, Entry, EventId, List, NoMemory, Outer, OuterFault, StateId, StepNotes, UnitId,
     Val, VarId,
@@ -196,8 +196,8 @@ impl CentralState {
     {
         let there = passes::events_there(alloc, chart, self.raised.as_slice(), outer)?;
         let store = outputs::store_then(alloc, self.store.as_slice(), outer)?;
-        let counts = self.items.open_then(alloc, chart, outer)?;
-        let dones = done_in(alloc, chart, outer)?;
+        let counts = self.items.open_counts_then(alloc, chart, outer)?;
+        let dones = done_bits(alloc, chart, outer)?;
         let snap = StepSnapshot {
             active: self.active.as_slice(),
             store: store.as_slice(),

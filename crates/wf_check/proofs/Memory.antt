@@ -14,7 +14,7 @@ use Rattle.wf_check.specs.Firsts.{unless, first_from}
 use Rattle.wf_check.specs.Limited.{size_fault}
 use Rattle.wf_check.specs.Numbered.{number_fault}
 use Rattle.wf_check.specs.Naming.{name_fault, named_in}
-use Rattle.wf_check.specs.Rooted.{shape_fault, unfit}
+use Rattle.wf_check.specs.Rooted.{shape_fault, kind_fault}
 use Rattle.wf_check.specs.Sorted.{sort_fault, transition_fault}
 use Rattle.wf_check.specs.FirstFault.{first_fault}
 use Rattle.wf_check.specs.Laws.{CheckingHasMemory}
@@ -53,10 +53,10 @@ named_rule : (kinds : List (What × ℕ)) (last : What) (n : ℕ) → is_rule (n
 named_rule [] last n = refl
 named_rule (kind ∷ more) last n = if_rule (nat_lt n kind.1) (faults.BadName kind.0 n) (named_in more last (n - kind.1)) refl (named_rule more last (n - kind.1))
 
-unfit_rule : (k : Kind) (s : StateId) → is_rule (unfit k s) ≡ true
-unfit_rule Basic s = refl
-unfit_rule Or s = refl
-unfit_rule And s = refl
+kind_fault_rule : (k : Kind) (s : StateId) → is_rule (kind_fault k s) ≡ true
+kind_fault_rule Basic s = refl
+kind_fault_rule Or s = refl
+kind_fault_rule And s = refl
 
 module _ (c : Chart) where
   size_has : has_memory (size_fault c) ≡ true
@@ -73,7 +73,7 @@ module _ (c : Chart) where
 
   shape_has : has_memory (shape_fault c) ≡ true
   unfolding shape_fault
-  shape_has = search (or_has, unless_has, map_has, unfit_rule) depth 40
+  shape_has = search (or_has, unless_has, map_has, kind_fault_rule) depth 40
 
   transition_has : (t : ℕ) (trans : Transition) → has_memory (transition_fault c t trans) ≡ true
   unfolding transition_fault

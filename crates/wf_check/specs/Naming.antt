@@ -29,8 +29,8 @@ named_in [] last n = BadName last n
 named_in (kind ∷ more) last n = if nat_lt n kind.1 then BadName kind.0 n else named_in more last (n - kind.1)
 
 -- the fault of the n-th of all names but the chart's
-abbrev pub misnamed : Chart → ℕ → CheckFault
-misnamed c n =
+abbrev pub name_fault_of : Chart → ℕ → CheckFault
+name_fault_of c n =
     named_in
     ((what.Units, length c.units)
     ∷ (what.Events, length c.events)
@@ -42,4 +42,4 @@ misnamed c n =
 
 -- the chart's name is looked at first, and doesn't count as used
 unfoldable pub name_fault : Chart → Option CheckFault
-name_fault c = first_some (unless (is_name c.name) (BadName what.Chart 0) ∷ option_map (misnamed c) (bad_name (names_of c)) ∷ [])
+name_fault c = first_some (unless (is_name c.name) (BadName what.Chart 0) ∷ option_map (name_fault_of c) (bad_name (names_of c)) ∷ [])

@@ -22,10 +22,10 @@ abbrev pub unfit_state : Chart → Option ℕ
 unfit_state c = first_failing_numbered (λ s state. suits state.kind (has_child c s)) c.states
 
 -- the fault of an unfit state of this kind
-abbrev pub unfit : Kind → StateId → CheckFault
-unfit Basic s = BasicWithChildren s
-unfit Or s = EmptyOr s
-unfit And s = EmptyAnd s
+abbrev pub kind_fault : Kind → StateId → CheckFault
+kind_fault Basic s = BasicWithChildren s
+kind_fault Or s = EmptyOr s
+kind_fault And s = EmptyAnd s
 
 unfoldable pub shape_fault : Chart → Option CheckFault
 shape_fault c =
@@ -33,5 +33,5 @@ shape_fault c =
     (unless (nat_lt 0 (length c.states)) NoRoot
     ∷ unless (is_or (kind c 0)) RootNotOr
     ∷ option_map (λ s. TooDeep (state_id s)) (deep_state c)
-    ∷ option_map (λ s. unfit (kind c s) (state_id s)) (unfit_state c)
+    ∷ option_map (λ s. kind_fault (kind c s) (state_id s)) (unfit_state c)
     ∷ [])

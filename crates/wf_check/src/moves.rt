@@ -5,7 +5,7 @@ ghost use Rattle.wf_check.specs.Firsts.{first_from};
 ghost use Rattle.wf_check.specs.Sorted as sorted;
 ghost use Rattle.wf_model.specs.Accepted as spec;
 
-use crate::sorts::alike;
+use crate::sorts::are_alike;
 use crate::{CheckFault, TypePlace};
 use wf_expr::type_of;
 use wf_model::{Action, Chart, Expr, Sort, TransId, Transition};
@@ -14,7 +14,7 @@ fn has_sort(chart: &Chart, e: &Expr, sort: Sort) -> bool
     ensures { result ≡ spec.has_sort chart.now e.now sort }
 {
     match type_of(e, chart) {
-        Ok(other) => alike(sort, other),
+        Ok(other) => are_alike(sort, other),
         Err(_) => false,
     }
 }

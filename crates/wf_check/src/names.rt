@@ -18,10 +18,10 @@ pub fn name_fault(alloc: Global, chart: &Chart) -> Result<Option<CheckFault>, No
     ensures { IfOk result (λ fault. fault ≡ naming.name_fault chart.now) }
 {
     if !is_name(chart.name.as_bytes()) {
-        return Ok(Some(misnamed_at(What::Chart, 0)));
+        return Ok(Some(name_fault_at(What::Chart, 0)));
     }
     match bad_name_of(alloc, chart)? {
-        Some(n) => Ok(Some(misnamed(chart, n))),
+        Some(n) => Ok(Some(name_fault_of(chart, n))),
         None => Ok(None),
     }
 }
@@ -34,7 +34,7 @@ fn bad_name_of(alloc: Global, chart: &Chart) -> Result<Option<usize>, NoMemory>
     bad_name(alloc, names.as_slice())
 }
 
-fn misnamed_at(what: What, at: usize) -> CheckFault
+fn name_fault_at(what: What, at: usize) -> CheckFault
     requires { at < 2 ^ 32 }
     ensures { result ≡ CheckFault.BadName what at }
 {
@@ -45,30 +45,30 @@ fn misnamed_at(what: What, at: usize) -> CheckFault
 }
 
 /// The fault of the n-th of all names but the chart's.
-fn misnamed(chart: &Chart, n: usize) -> CheckFault
+fn name_fault_of(chart: &Chart, n: usize) -> CheckFault
     requires { n < 2 ^ 32 }
-    ensures { result ≡ naming.misnamed chart.now n }
+    ensures { result ≡ naming.name_fault_of chart.now n }
 {
     let units = chart.units.len();
     if n < units {
-        return misnamed_at(What::Units, n);
+        return name_fault_at(What::Units, n);
     }
     let n = n - units;
     let events = chart.events.len();
     if n < events {
-        return misnamed_at(What::Events, n);
+        return name_fault_at(What::Events, n);
     }
     let n = n - events;
     let vars = chart.vars.len();
     if n < vars {
-        return misnamed_at(What::Vars, n);
+        return name_fault_at(What::Vars, n);
     }
     let n = n - vars;
     let acts = chart.acts.len();
     if n < acts {
-        return misnamed_at(What::Activities, n);
+        return name_fault_at(What::Activities, n);
     }
-    misnamed_at(What::States, n - acts)
+    name_fault_at(What::States, n - acts)
 }
 
 /// A part of a chart that has a name.

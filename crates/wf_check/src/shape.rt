@@ -30,7 +30,7 @@ pub fn shape_fault(chart: &Chart) -> Option<CheckFault>
         return Some(CheckFault::TooDeep { state: state_id(s) });
     }
     let state = state_id(unfit_state(chart)?);
-    Some(unfit(chart.kind(state), state))
+    Some(kind_fault(chart.kind(state), state))
 }
 
 fn state_id(s: usize) -> StateId
@@ -40,8 +40,8 @@ fn state_id(s: usize) -> StateId
     StateId(s as u32)
 }
 
-fn unfit(kind: Kind, state: StateId) -> CheckFault
-    ensures { result ≡ rooted.unfit kind state }
+fn kind_fault(kind: Kind, state: StateId) -> CheckFault
+    ensures { result ≡ rooted.kind_fault kind state }
 {
     match kind {
         Kind::Basic => CheckFault::BasicWithChildren { state },

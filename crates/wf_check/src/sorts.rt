@@ -54,7 +54,7 @@ fn sort_of(val: &Val) -> Sort
 }
 
 /// Whether the two sorts are one.
-pub fn alike(left: Sort, right: Sort) -> bool
+pub fn are_alike(left: Sort, right: Sort) -> bool
     ensures { result ≡ sorts.alike left right }
 {
     left == right
@@ -63,7 +63,7 @@ pub fn alike(left: Sort, right: Sort) -> bool
 fn is_like(var: &Variable) -> bool
     ensures { result ≡ sorts.alike (val_sort var.now.first) var.now.sort }
 {
-    alike(sort_of(&var.first), var.sort)
+    are_alike(sort_of(&var.first), var.sort)
 }
 
 fn unlike_var(chart: &Chart) -> Option<usize>

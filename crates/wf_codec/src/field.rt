@@ -35,7 +35,7 @@ pub const ANY_NUMBERS: Numbers = Numbers {
 };
 
 /// The fault of a field that begins these bytes and isn't in its range.
-pub fn bad(bytes: &[u8]) -> FieldFault
+pub fn bad_field(bytes: &[u8]) -> FieldFault
     ensures { result ≡ fault.Misfit (Bad (length bytes.now)) }
 {
     FieldFault::Misfit(Misfit::Bad { left: bytes.len() })
@@ -63,7 +63,7 @@ pub fn u8_in(bytes: &[u8], least: u64, limit: u64) -> Result<(u8, &[u8]), FieldF
             if least <= number && number < limit {
                 Ok((*byte, rest))
             } else {
-                Err(bad(bytes))
+                Err(bad_field(bytes))
             }
         }
     }
@@ -83,7 +83,7 @@ pub fn u16_in(bytes: &[u8], least: u64, limit: u64) -> Result<(u32, &[u8]), Fiel
     if least <= wide && wide < limit {
         Ok((u32::from(number), rest))
     } else {
-        Err(bad(bytes))
+        Err(bad_field(bytes))
     }
 }
 
@@ -101,7 +101,7 @@ pub fn u32_in(bytes: &[u8], least: u64, limit: u64) -> Result<(u32, &[u8]), Fiel
     if least <= wide && wide < limit {
         Ok((number, rest))
     } else {
-        Err(bad(bytes))
+        Err(bad_field(bytes))
     }
 }
 

@@ -5,7 +5,7 @@ ghost use Rattle.wf_codec.specs.Records.{head_name_at};
 ghost use Rattle.wf_codec.specs.Records as spec;
 
 use crate::fault::{FieldFault, Misfit};
-use crate::field::{bad, u8_in};
+use crate::field::{bad_field, u8_in};
 use std::alloc::Global;
 use wf_model::limits::MAX_NAME;
 use wf_model::{Name, is_word_char};
@@ -44,7 +44,7 @@ fn head_char_of(bytes: &[u8]) -> Result<(u8, &[u8]), FieldFault>
             if is_head_char(*c) {
                 Ok((*c, rest))
             } else {
-                Err(bad(bytes))
+                Err(bad_field(bytes))
             }
         }
     }

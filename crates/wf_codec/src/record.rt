@@ -6,7 +6,9 @@ ghost use Rattle.wf_codec.specs.Answers.{AnswersRecord};
 ghost use Rattle.wf_codec.specs.declared.record.JournalRecord.{JournalRecord as RecordValue};
 
 use crate::fault::{FieldFault, Misfit, RecordFault};
-use crate::field::{ANY_NUMBER, ANY_NUMBERS, CHART_NUMBERS, bad, u8_in, u16_in, u32_in, u64_of};
+use crate::field::{
+    ANY_NUMBER, ANY_NUMBERS, CHART_NUMBERS, bad_field, u8_in, u16_in, u32_in, u64_of,
+};
 use crate::head::head_name_of;
 use crate::item::{Read, items_of};
 use std::alloc::Global;
@@ -80,7 +82,7 @@ fn first_record(alloc: Global, bytes: &[u8]) -> Result<(JournalRecord, &[u8]), F
         [HEAD, rest @ ..] => head_of(alloc, rest),
         [ADMIT, rest @ ..] => admit_of(alloc, rest),
         [TURN, rest @ ..] => turn_of(alloc, rest),
-        [_, ..] => Err(bad(bytes)),
+        [_, ..] => Err(bad_field(bytes)),
     }
 }
 

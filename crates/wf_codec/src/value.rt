@@ -6,7 +6,7 @@ ghost use Rattle.wf_codec.specs.Fields.{bool_at, int_at, text_at, value_at};
 ghost use Rattle.wf_model.specs.Limits.{max_text};
 
 use crate::fault::{FieldFault, Misfit};
-use crate::field::{bad, u8_in, u64_of};
+use crate::field::{bad_field, u8_in, u64_of};
 use wf_model::limits::MAX_TEXT;
 use wf_model::{Txt, Val, is_text_char};
 
@@ -30,7 +30,7 @@ fn char_of(bytes: &[u8]) -> Result<(u8, &[u8]), FieldFault>
             if is_text_char(*c) {
                 Ok((*c, rest))
             } else {
-                Err(bad(bytes))
+                Err(bad_field(bytes))
             }
         }
     }

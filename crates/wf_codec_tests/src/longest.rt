@@ -91,7 +91,7 @@ fn add_outers(bytes: &mut Vec<u8>) -> Result<(), NoMemory> {
 }
 
 /// The longest spelling of an update.
-fn longest(alloc: Global) -> Result<Vec<u8>, NoMemory> {
+fn longest_spelling(alloc: Global) -> Result<Vec<u8>, NoMemory> {
     let mut bytes = Vec::new(alloc);
     bytes.extend_from_slice(&[0x55, MAX_UNITS as u8 - 1])?;
     bytes.extend_from_slice(&(MAX_STEPS + 1).to_be_bytes())?;
@@ -106,7 +106,7 @@ fn longest(alloc: Global) -> Result<Vec<u8>, NoMemory> {
 
 #[test]
 fn the_longest_update_is_read_and_spelled(rt: HostRuntime) -> Result<(), Fail> {
-    let bytes = longest(rt.alloc())?;
+    let bytes = longest_spelling(rt.alloc())?;
     assert_eq!(rt; bytes.len(), 87_488);
     let Ok((update, len)) = decode(rt.alloc(), &bytes) else {
         return Err(Fail::new("it is an update"));

@@ -23,7 +23,7 @@ fn a_head_is_spelled(rt: HostRuntime) -> Result<(), Fail> {
 }
 
 // Whether a record has this body, and is spelled so again.
-fn again(rt: &HostRuntime, text: &str) -> Result<bool, Fail> {
+fn is_spelled_again(rt: &HostRuntime, text: &str) -> Result<bool, Fail> {
     let body = bytes_of(rt, text)?;
     let Ok(read) = decode_record(rt.alloc(), &body) else {
         return Ok(false);
@@ -48,7 +48,7 @@ fn records_are_read(rt: HostRuntime) -> Result<(), Fail> {
         // no peer, and any step
         "54 ffffffff 00 ffff",
     ] {
-        assert!(rt; again(&rt, text)?, "{text}");
+        assert!(rt; is_spelled_again(&rt, text)?, "{text}");
     }
     Ok(())
 }
@@ -76,7 +76,7 @@ fn other_bodies(rt: HostRuntime) -> Result<(), Fail> {
         // two updates of one unit
         "54 00000001 02 55 01 00000001 0000 0000 0000 0000 0000 0000 55 01 00000001 0000 0000 0000 0000 0000 0000 0001",
     ] {
-        assert!(rt; !again(&rt, text)?, "{text}");
+        assert!(rt; !is_spelled_again(&rt, text)?, "{text}");
     }
     Ok(())
 }

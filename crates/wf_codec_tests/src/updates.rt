@@ -179,7 +179,7 @@ fn each_byte_is_changed(rt: HostRuntime) -> Result<(), Fail> {
 }
 
 // A list of one item.
-fn one<T: Drop>(rt: &HostRuntime, item: T) -> Result<List<T>, Fail> {
+fn list_of_one<T: Drop>(rt: &HostRuntime, item: T) -> Result<List<T>, Fail> {
     let mut items = List::new(rt.alloc());
     items.push(item)?;
     Ok(items)
@@ -200,12 +200,12 @@ fn an_update_is_spelled(rt: HostRuntime) -> Result<(), Fail> {
     let mut update = Update {
         from: UnitId(7),
         step: 20_001,
-        flips: one(&rt, StateId(1))?,
-        writes: one(&rt, write)?,
-        raised: one(&rt, EventId(3))?,
-        starts: one(&rt, start)?,
-        fired: one(&rt, TransId(0x0102))?,
-        outer: one(&rt, Outer::Happen(EventId(1)))?,
+        flips: list_of_one(&rt, StateId(1))?,
+        writes: list_of_one(&rt, write)?,
+        raised: list_of_one(&rt, EventId(3))?,
+        starts: list_of_one(&rt, start)?,
+        fired: list_of_one(&rt, TransId(0x0102))?,
+        outer: list_of_one(&rt, Outer::Happen(EventId(1)))?,
     };
     let wanted = bytes_of(
         &rt,

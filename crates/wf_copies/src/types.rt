@@ -18,7 +18,7 @@ fn is_copied<T: Duplicate + Same>(alloc: Global, value: &T) -> Result<bool, NoMe
     Ok(value.copy(alloc)?.is_same(value))
 }
 
-fn one<T: Drop>(alloc: Global, item: T) -> Result<List<T>, NoMemory> {
+fn list_of_one<T: Drop>(alloc: Global, item: T) -> Result<List<T>, NoMemory> {
     let mut items = List::new(alloc);
     items.push(item)?;
     Ok(items)
@@ -30,7 +30,7 @@ fn completion(alloc: Global) -> Result<Outer, NoMemory> {
     Ok(Outer::Complete {
         item: 1,
         act: ActId(0),
-        outputs: one(
+        outputs: list_of_one(
             alloc,
             Output {
                 var: VarId(0),
@@ -54,12 +54,12 @@ fn update(alloc: Global) -> Result<Update, NoMemory> {
     Ok(Update {
         from: UnitId(0),
         step: 1,
-        flips: one(alloc, StateId(3))?,
-        writes: one(alloc, write)?,
-        raised: one(alloc, EventId(0))?,
-        starts: one(alloc, start)?,
-        fired: one(alloc, TransId(1))?,
-        outer: one(alloc, completion(alloc)?)?,
+        flips: list_of_one(alloc, StateId(3))?,
+        writes: list_of_one(alloc, write)?,
+        raised: list_of_one(alloc, EventId(0))?,
+        starts: list_of_one(alloc, start)?,
+        fired: list_of_one(alloc, TransId(1))?,
+        outer: list_of_one(alloc, completion(alloc)?)?,
     })
 }
 

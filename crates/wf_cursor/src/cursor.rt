@@ -87,14 +87,14 @@ impl<'a> Cursor<'a> {
     }
 
     /// How many tokens are left.
-    pub fn left(&self) -> usize
+    pub fn tokens_left(&self) -> usize
         ensures { result ≡ length self.now.left }
     {
         self.tokens.len() - self.at
     }
 
     #[tactic(auto, unfolding(crate::specs::Input::ahead))]
-    fn ahead(&self) -> Option<Token>
+    fn next_token(&self) -> Option<Token>
         ensures value { result ≡ spec.ahead self.now }
         ensures some { IfSome result (λ _. 0 < length self.now.left) }
     {
@@ -106,7 +106,7 @@ impl<'a> Cursor<'a> {
     pub fn spelling(&self) -> &'a [u8]
         ensures { result.now ≡ spec.spelling self.now }
     {
-        match self.ahead() {
+        match self.next_token() {
             Some(token) => slice_of(self.text, token.start, token.end),
             None => &[],
         }
@@ -118,7 +118,7 @@ impl<'a> Cursor<'a> {
         ensures value { result ≡ spec.piece self.now }
         ensures some { IfSome result (λ _. 0 < length self.now.left) }
     {
-        match self.ahead() {
+        match self.next_token() {
             Some(token) => Some(piece_of(token.kind, self.spelling())),
             None => None,
         }
@@ -144,7 +144,7 @@ impl<'a> Cursor<'a> {
     }
 
     /// The fault that the next token is too large, or one too many of its kind.
-    pub fn oversize(&self) -> TextFault
+    pub fn oversize_fault(&self) -> TextFault
         ensures { result ≡ TextFault.Oversize self.now.at }
     {
         TextFault::Oversize { at: self.at }
@@ -210,7 +210,7 @@ impl<'a> Cursor<'a> {
         if !self.sees(Piece::Name) {
             Err(self.syntax())
         } else if self.spelling().len() > MAX_NAME {
-            Err(self.oversize())
+            Err(self.oversize_fault())
         } else {
             Ok(())
         }
@@ -230,7 +230,7 @@ impl<'a> Cursor<'a> {
 
     /// What the next token is declared as.
     #[tactic(auto, unfolding(crate::specs::Input::declared))]
-    fn declared(&self) -> Option<Declared>
+    fn declaration(&self) -> Option<Declared>
         ensures { result ≡ spec.declared self.now }
     {
         self.names.get(self.spelling())
@@ -254,7 +254,7 @@ impl<'a> Cursor<'a> {
         ensures stays { OnErr result (self.new ≡ self.old) }
     {
         self.name_ahead()?;
-        if self.declared().is_some() {
+        if self.declaration().is_some() {
             return Err(self.double_name());
         }
         let name = Name::new(alloc, self.spelling())?;
@@ -271,7 +271,7 @@ impl<'a> Cursor<'a> {
         ensures room { OnOk result (HasRoom self.new) }
     {
         self.name_ahead()?;
-        match self.declared() {
+        match self.declaration() {
             Some(Declared::Unit(unit)) => {
                 self.take();
                 Ok(unit)
@@ -287,7 +287,7 @@ impl<'a> Cursor<'a> {
         ensures stays { OnErr result (self.new ≡ self.old) }
     {
         self.name_ahead()?;
-        match self.declared() {
+        match self.declaration() {
             Some(Declared::Event(event)) => {
                 self.take();
                 Ok(event)
@@ -303,7 +303,7 @@ impl<'a> Cursor<'a> {
         ensures stays { OnErr result (self.new ≡ self.old) }
     {
         self.name_ahead()?;
-        match self.declared() {
+        match self.declaration() {
             Some(Declared::Var(variable)) => {
                 self.take();
                 Ok(variable)
@@ -319,7 +319,7 @@ impl<'a> Cursor<'a> {
         ensures stays { OnErr result (self.new ≡ self.old) }
     {
         self.name_ahead()?;
-        match self.declared() {
+        match self.declaration() {
             Some(Declared::Activity(activity)) => {
                 self.take();
                 Ok(activity)
@@ -335,7 +335,7 @@ impl<'a> Cursor<'a> {
         ensures stays { OnErr result (self.new ≡ self.old) }
     {
         self.name_ahead()?;
-        match self.declared() {
+        match self.declaration() {
             Some(Declared::State(state)) => {
                 self.take();
                 Ok(state)
@@ -360,7 +360,7 @@ impl<'a> Cursor<'a> {
                 self.take();
                 Ok(number)
             }
-            None => Err(self.oversize()),
+            None => Err(self.oversize_fault()),
         }
     }
 
@@ -398,7 +398,7 @@ impl<'a> Cursor<'a> {
                 self.take();
                 Ok(text)
             }
-            None => Err(self.oversize()),
+            None => Err(self.oversize_fault()),
         }
     }
 
@@ -421,7 +421,7 @@ impl<'a> Cursor<'a> {
             self.nodes += 1;
             Ok(())
         } else {
-            Err(self.oversize())
+            Err(self.oversize_fault())
         }
     }
 

@@ -6,7 +6,7 @@ use wf_model::limits::MAX_TEXT;
 use wf_model::{Txt, is_text_char};
 
 // The number that the digits make, or the greatest `u64` where it is greater.
-fn saturated(digits: &[u8]) -> u64
+fn capped_number(digits: &[u8]) -> u64
     ensures { result ≡ min (spec.number digits.now) u64.MAX }
 {
     let mut number = 0u64;
@@ -24,7 +24,7 @@ pub fn number_up_to(most: u64, digits: &[u8]) -> Option<u64>
     ensures value { result ≡ spec.number_up_to most digits.now }
     ensures fits { IfSome result (λ number. number ≤ most) }
 {
-    let number = saturated(digits);
+    let number = capped_number(digits);
     if number <= most { Some(number) } else { None }
 }
 

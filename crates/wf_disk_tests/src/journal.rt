@@ -31,7 +31,7 @@ fn bytes_of(rt: &HostRuntime, disk: &mut MemDisk) -> Result<Vec<u8>, Fail> {
 }
 
 /// What a journal answers as it starts on an image, and the disk's bytes then.
-fn started(rt: &HostRuntime, image: &[u8]) -> Result<(Option<StartFault>, Vec<u8>), Fail> {
+fn answer_of_start(rt: &HostRuntime, image: &[u8]) -> Result<(Option<StartFault>, Vec<u8>), Fail> {
     let mut disk = MemDisk::new(rt.alloc());
     disk.write_at(0, image)?;
     let (fault, mut disk) = match Journal::start(rt.alloc(), disk) {
@@ -76,7 +76,7 @@ fn what_a_journal_starts_on(rt: HostRuntime) -> Result<(), Fail> {
         ),
     ];
     for (image, wanted) in images {
-        let (fault, bytes) = started(&rt, image)?;
+        let (fault, bytes) = answer_of_start(&rt, image)?;
         assert_eq!(rt; fault, wanted);
         assert_eq!(rt; bytes.as_slice(), image);
     }
@@ -140,7 +140,7 @@ fn each_append_finds_the_room_that_was_made(rt: HostRuntime) -> Result<(), Fail>
 }
 
 /// What an append under an arm answers, and whether its body stands after the revival.
-fn appended(rt: &HostRuntime, stroke: u32, what: Arm) -> Result<(bool, bool), Fail> {
+fn answer_of_append(rt: &HostRuntime, stroke: u32, what: Arm) -> Result<(bool, bool), Fail> {
     let mut journal = journal_on(rt, MemDisk::new(rt.alloc()))?;
     journal.arm(stroke, what);
     let failed = journal.append(&HEAD) == Err(AppendFault::DiskFailed);
@@ -178,7 +178,7 @@ fn what_stands_after_an_arm(rt: HostRuntime) -> Result<(), Fail> {
         (5, keep, false, true),
     ] {
         assert_eq!(rt;
-            appended(&rt, stroke, what)?,
+            answer_of_append(&rt, stroke, what)?,
             (failed, stands),
             "at {stroke}"
         );

@@ -12,7 +12,7 @@ fn write(disk: &mut MemDisk, at: u64, bytes: &[u8]) -> Result<(), WriteRefused> 
 }
 
 /// Three synced bytes, and two written over the last and past the end under an arm.
-fn half_synced(rt: &HostRuntime, stroke: u32, what: Arm) -> Result<(MemDisk, bool), Fail> {
+fn half_synced_disk(rt: &HostRuntime, stroke: u32, what: Arm) -> Result<(MemDisk, bool), Fail> {
     let mut disk = MemDisk::new(rt.alloc());
     disk.reserve(5, 2)?;
     write(&mut disk, 0, b"abc")?;
@@ -50,7 +50,7 @@ fn what_arms_and_crashes_leave(rt: HostRuntime) -> Result<(), Fail> {
         (2, Arm::Crash(Outcome::Torn), Outcome::Keep, keep),
     ];
     for (stroke, what, outcome, wanted) in rows {
-        let (mut disk, written) = half_synced(&rt, stroke, what)?;
+        let (mut disk, written) = half_synced_disk(&rt, stroke, what)?;
         assert_eq!(rt; written, stroke != 1);
         if disk.stopped() {
             disk.revive();

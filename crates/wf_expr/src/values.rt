@@ -53,7 +53,7 @@ pub fn outcome<S: Snapshot>(e: &Expr, snap: &S) -> Result<Val, Fault>
                 return Ok(left);
             }
             let right = outcome(right.get(), snap)?;
-            binary(*op, left, right)
+            binary_value(*op, left, right)
         }
     }
 }
@@ -71,7 +71,7 @@ fn is_decided(op: Op, left: &Val) -> bool
 
 /// What the operator makes of the values of both sides.
 #[tactic(auto, unfolding(wf_model::specs::Values::on_two))]
-fn binary(op: Op, left: Val, right: Val) -> Result<Val, Fault>
+fn binary_value(op: Op, left: Val, right: Val) -> Result<Val, Fault>
     ensures { result ≡ spec.on_two op left right }
 {
     match (op, left, right) {

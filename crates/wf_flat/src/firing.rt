@@ -55,7 +55,7 @@ fn is_ready(sight: &Sighting, trans: &PartTransition) -> bool
 }
 
 // The transitions that are ready, by their places.
-fn ready<const W: usize>(sight: &Sighting, transitions: &[PartTransition]) -> Bits<W>
+fn enabled_bits<const W: usize>(sight: &Sighting, transitions: &[PartTransition]) -> Bits<W>
     requires some { 1 ≤ W }
     requires few { W ≤ 64 }
     requires long { length transitions.now ≤ 64 * W }
@@ -72,7 +72,7 @@ fn ready<const W: usize>(sight: &Sighting, transitions: &[PartTransition]) -> Bi
 }
 
 // The transitions that fire, by their places: those that are ready and of whose blockers none is.
-fn fired<const W: usize>(
+fn firing_bits<const W: usize>(
     sight: &Sighting,
     transitions: &[PartTransition],
     rows: &[Bits<W>],
@@ -84,7 +84,7 @@ fn fired<const W: usize>(
     requires rows { rows.now ≡ rows_of (64 * W) transitions.now }
     ensures { result ≡ places (64 * W) (is_unblocked transitions.now (is_ready_in (shown_by sight.now))) transitions.now }
 {
-    fires(&ready(sight, transitions), rows)
+    fires(&enabled_bits(sight, transitions), rows)
 }
 
 // Of each of these transitions by its place, whether it is among those.
@@ -118,7 +118,7 @@ fn fired_by<const W: usize>(
     requires rows { rows.now ≡ rows_of (64 * W) transitions.now }
     ensures { IfOk result (λ flags. flags.items ≡ map (is_unblocked transitions.now (is_ready_in (shown_by sight.now))) transitions.now) }
 {
-    flags(alloc, transitions, &fired(sight, transitions, rows))
+    flags(alloc, transitions, &firing_bits(sight, transitions, rows))
 }
 
 // A case for each width of the rows.

@@ -122,7 +122,7 @@ impl Gathered {
 }
 
 /// These events, each once, ascending. In linear time in them and in the greatest of their numbers.
-pub fn ascending(alloc: Global, raised: &[EventId]) -> Result<List<EventId>, NoMemory>
+pub fn ascending_events(alloc: Global, raised: &[EventId]) -> Result<List<EventId>, NoMemory>
     ensures { IfOk result (λ events. events ≡ ascending raised.now) }
 {
     let set = event_set(alloc, raised)?;

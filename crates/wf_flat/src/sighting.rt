@@ -30,11 +30,11 @@ impl Sighting {
         ensures { IfOk result (λ it. shown_by it ≡ sees part.now view.now) }
     {
         let known = known_state_set(alloc, part.states.as_slice())?;
-        let inside = view.inside(alloc)?;
+        let inside = view.states_inside(alloc)?;
         let vars = view.vars_now(alloc)?;
-        let unclosed = view.unclosed_now(alloc)?;
-        let done = view.done_now(alloc)?;
-        let there = view.there_now(alloc)?;
+        let unclosed = view.open_counts_now(alloc)?;
+        let done = view.done_acts_now(alloc)?;
+        let there = view.events_there_now(alloc)?;
         Ok(Sighting {
             known,
             inside,

@@ -11,7 +11,7 @@ ghost use Rattle.wf_flat.specs.Sighted.{shown_by};
 
 use crate::firing::Firing;
 use crate::flips::flips;
-use crate::gathered::{Gathered, ascending};
+use crate::gathered::{Gathered, ascending_events};
 use crate::sighting::Sighting;
 use std::alloc::Global;
 use wf_actions::merge_writes;
@@ -20,7 +20,7 @@ use wf_parts::{Part, PartData, Rows};
 use wf_updates::View;
 
 // The write of each variable that stays.
-fn merged(alloc: Global, writes: &[Write]) -> Result<List<Write>, NoMemory>
+fn merged_writes(alloc: Global, writes: &[Write]) -> Result<List<Write>, NoMemory>
     ensures { IfOk result (λ stay. stay ≡ merged writes.now) }
 {
     let mut stay = List::new(alloc);
@@ -50,8 +50,8 @@ fn step_of(
         part.transitions.as_slice(),
         firing.by_place.as_slice(),
     )?;
-    let writes = merged(alloc, gathered.writes.as_slice())?;
-    let raised = ascending(alloc, gathered.raised.as_slice())?;
+    let writes = merged_writes(alloc, gathered.writes.as_slice())?;
+    let raised = ascending_events(alloc, gathered.raised.as_slice())?;
     Ok(Update {
         from: part.unit,
         step,

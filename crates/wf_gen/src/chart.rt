@@ -78,7 +78,7 @@ fn chart(alloc: Global, draws: &mut Draws) -> Result<Chart, NoMemory>
 
 /// The chart, sealed. Its transitions are drawn.
 #[tactic(auto, using(crate::proofs::Sealed::generated))]
-pub fn checked(alloc: Global, draws: &mut Draws) -> Result<Checked, NoMemory>
+pub fn sealed_chart(alloc: Global, draws: &mut Draws) -> Result<Checked, NoMemory>
     ensures chart { IfOk result (λ checked. checked ≡ spec.gen_chart draws.old) }
     ensures drawn { OnOk result (draws.new ≡ after 120 draws.old) }
 {

@@ -2,7 +2,7 @@
 ghost use Rattle.std.specs.Prelude.{◌≡◌, IfOk};
 ghost use Rattle.wf_gen.specs.GenText as spec;
 
-use crate::chart::checked;
+use crate::chart::sealed_chart;
 use crate::draws::Draws;
 use crate::script::append_script;
 use std::alloc::Global;
@@ -16,7 +16,7 @@ pub fn gen_text(alloc: Global, n: u32) -> Result<Bytes, NoMemory>
     ensures { IfOk result (λ text. text ≡ spec.gen_text n) }
 {
     let mut draws = Draws::new(n);
-    let chart = checked(alloc, &mut draws)?;
+    let chart = sealed_chart(alloc, &mut draws)?;
     let mut text = print_chart(alloc, &chart)?;
     text.append(b"---\n")?;
     append_script(&mut text, &mut draws)?;

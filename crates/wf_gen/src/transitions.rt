@@ -13,7 +13,7 @@ const X: VarId = VarId(0);
 
 const Y: VarId = VarId(1);
 
-fn binary(alloc: Global, op: Op, left: Expr, right: Expr) -> Result<Expr, NoMemory>
+fn binary_expr(alloc: Global, op: Op, left: Expr, right: Expr) -> Result<Expr, NoMemory>
     ensures { IfOk result (λ made. made ≡ Expr.Bin op left right) }
 {
     Ok(Expr::Bin(op, Boxed::new(alloc, left)?, Boxed::new(alloc, right)?))
@@ -25,10 +25,10 @@ fn actions(alloc: Global, d: u64) -> Result<List<Action>, NoMemory>
 {
     let mut actions = List::new(alloc);
     if d == 0 {
-        let more = binary(alloc, Op::Add, Expr::Var(X), Expr::Int(1))?;
+        let more = binary_expr(alloc, Op::Add, Expr::Var(X), Expr::Int(1))?;
         actions.push(Action::Assign(X, more))?;
     } else if d == 1 {
-        let less = binary(alloc, Op::Sub, Expr::Var(X), Expr::Var(Y))?;
+        let less = binary_expr(alloc, Op::Sub, Expr::Var(X), Expr::Var(Y))?;
         actions.push(Action::Assign(Y, less))?;
     } else if d == 2 {
         actions.push(Action::Raise(EventId(4)))?;

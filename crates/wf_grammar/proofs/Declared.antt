@@ -12,7 +12,7 @@ use Rattle.wf_cursor.specs.declared.piece.Piece.{Piece}
 use Rattle.wf_cursor.specs.declared.piece.Piece.TheVariants as pieces
 use Rattle.wf_cursor.specs.Input as input
 use Rattle.wf_cursor.specs.Input.{Input, Parser, and_then, ◌>>=◌, ◌>>◌, pure, piece, expect, new_name, with_unit, with_event, with_var, with_act}
-use Rattle.wf_phrase.specs.Literals.{sort, sort_by, sort_named, literal, literal_by, number, negated, characters}
+use Rattle.wf_phrase.specs.Literals.{sort, sort_by, sort_named, literal, literal_by, number, negative_number, characters}
 use Rattle.wf_text.specs.Declarations as reader
 use Rattle.wf_text.specs.Declarations.{outputs_from, outputs, outputs_if_any, declaration, declaration_by, declarations_from, declarations}
 use Rattle.wf_grammar.specs.Lexemes.{Lexeme, lexeme_of}
@@ -65,9 +65,9 @@ module _ (i : Input) (left : List Token) (at count : ℕ) (x : Val) (j : Input) 
       let n = text_then i left at count _ x j h in
       rw n.whole (ends_read i Literal (lexeme_of i.text n.token ∷ []) (n.token ∷ n.rest) n.rest (at + 1) count (v.Text n.value) x j refl (phrase.literal_text (lexeme_of i.text n.token) n.value n.is n.is_read) n.goes_on)
 
-  negated_reads : (t : Token) → Is pieces.Minus (lexeme_of i.text t) → negated (here i (t ∷ left) at count) ≡ Ok (x, j) → Read i Literal (t ∷ left) x j
-  unfolding negated
-  negated_reads t minus h =
+  negative_number_reads : (t : Token) → Is pieces.Minus (lexeme_of i.text t) → negative_number (here i (t ∷ left) at count) ≡ Ok (x, j) → Read i Literal (t ∷ left) x j
+  unfolding negative_number
+  negative_number_reads t minus h =
       let h' : and_then (input.negated_int (here i left (at + 1) count)) (λ n. pure (v.Int (neg_ℤ (pos n)))) ≡ Ok (x, j) = rw (next_here i t left at count) at h in
       let n = negated_int_then i left (at + 1) count _ x j h' in
       rw n.whole (ends_read i Literal (lexeme_of i.text t ∷ lexeme_of i.text n.token ∷ []) (t ∷ n.token ∷ n.rest) n.rest (at + 1 + 1) count (v.Int (neg_ℤ (pos n.value))) x j refl
@@ -84,7 +84,7 @@ literal_reads i (t ∷ rest) at count x j h = by_piece (lexeme_of i.text t).piec
     by_piece pieces.True is h' = ends_read i Literal (lexeme_of i.text t ∷ []) (t ∷ rest) rest (at + 1) count (v.Bool true) x j refl (phrase.literal_true (lexeme_of i.text t) is) (rw (next_here i t rest at count) at h')
     by_piece pieces.False is h' = ends_read i Literal (lexeme_of i.text t ∷ []) (t ∷ rest) rest (at + 1) count (v.Bool false) x j refl (phrase.literal_false (lexeme_of i.text t) is) (rw (next_here i t rest at count) at h')
     by_piece pieces.Int is h' = number_reads i (t ∷ rest) at count x j h'
-    by_piece pieces.Minus is h' = negated_reads i rest at count x j t is h'
+    by_piece pieces.Minus is h' = negative_number_reads i rest at count x j t is h'
     by_piece pieces.Text is h' = characters_reads i (t ∷ rest) at count x j h'
     by_piece _ is h' = cc
 

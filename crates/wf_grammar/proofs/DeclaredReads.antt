@@ -12,7 +12,7 @@ use Rattle.wf_cursor.specs.declared.piece.Piece.{Piece}
 use Rattle.wf_cursor.specs.declared.piece.Piece.TheVariants as pieces
 use Rattle.wf_cursor.specs.Input as input
 use Rattle.wf_cursor.specs.Input.{Input, Parser, and_then, ◌>>=◌, ◌>>◌, pure, piece, expect, new_name, with_unit, with_event, with_var, with_act}
-use Rattle.wf_phrase.specs.Literals.{sort, literal, number, negated, characters}
+use Rattle.wf_phrase.specs.Literals.{sort, literal, number, negative_number, characters}
 use Rattle.wf_text.specs.Declarations as reader
 use Rattle.wf_text.specs.Declarations.{outputs_from, outputs, outputs_if_any, declaration, declaration_by, declarations_from, declarations}
 use Rattle.wf_grammar.specs.Lexemes.{Lexeme, lexeme_of}
@@ -54,7 +54,7 @@ sort_gives text s sorts.Text w ws left at count is word =
     (take_gives text s left at count w ws is s (pure sorts.Text) sorts.Text ws (λ rest at count is. pure_gave text s sorts.Text ws rest at count is))
 
 literal_gives : (text : List ℕ) (s : Scope) {ws : List Lexeme} {x : Val} → Literal ws x → GivesAs text s Whatever literal ws x
-unfolding literal number negated characters
+unfolding literal number negative_number characters
 literal_gives text s (phrase.literal_true w word) more may left at count is =
     rw (next_is (within text s) pieces.True w more left at count is word)
     (take_gives text s left at count w more is s (pure (v.Bool true)) (v.Bool true) more (λ rest at count is. pure_gave text s (v.Bool true) more rest at count is))

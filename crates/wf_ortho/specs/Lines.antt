@@ -1,19 +1,10 @@
 -- The line of a component.
 use Rattle.std.specs.Prelude.{ℕ, ◌++◌, Bool, true, false, List}
-use Rattle.std.specs.List.{flat_map}
-use Rattle.std.specs.Fmt.{decimal}
 use lib.Chars.{codes}
-use Rattle.wf_model.specs.declared.ids.TransId.{TransId}
 use Rattle.wf_parts.specs.declared.data.Component.{Component}
 use Rattle.wf_model.specs.declared.chart.Chart.{Chart}
 use Rattle.wf_words.specs.Names.{state_name}
-
--- each transition as a blank, `t` and its number
-abbrev pub trans_text : TransId → List ℕ
-trans_text t = codes " t" ++ decimal t.0
-
-abbrev pub trans_list : List TransId → List ℕ
-trans_list ts = flat_map trans_text ts
+use Rattle.wf_words.specs.Transitions.{trans_list}
 
 abbrev pub first_word : Bool → List ℕ
 first_word true = codes " in"

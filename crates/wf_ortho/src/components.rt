@@ -15,7 +15,7 @@ use wf_parts::{Component, Flat};
 use wf_scopes::{Scopes, default_bits};
 
 // The transitions that let state `z` in.
-fn entering(
+fn entering_ids(
     alloc: Global,
     chart: &Chart,
     scopes: &Scopes,
@@ -47,7 +47,7 @@ fn leaves(chart: &Chart, scopes: &Scopes, t: TransId, z: StateId) -> bool
 }
 
 // The transitions that let state `z` out.
-fn leaving(
+fn leaving_ids(
     alloc: Global,
     chart: &Chart,
     scopes: &Scopes,
@@ -82,8 +82,8 @@ fn component(
     requires first { first ≡ is_in z.0 (default_tree chart.now 0) }
     ensures { IfOk result (λ component. component ≡ component_of chart.now z.0) }
 {
-    let enter = entering(alloc, chart, scopes, z)?;
-    let leave = leaving(alloc, chart, scopes, z)?;
+    let enter = entering_ids(alloc, chart, scopes, z)?;
+    let leave = leaving_ids(alloc, chart, scopes, z)?;
     Ok(Component {
         state: z,
         first,

@@ -1,23 +1,13 @@
 //! The lines of components.
 ghost use Rattle.std.specs.Prelude.{◌≡◌, ◌++◌, ◌<◌, length, IfOk, OnOk, OnErr};
 ghost use Rattle.wf_parts.specs.Components.{flat_of, component_of};
-ghost use Rattle.wf_ortho.specs.Lines.{trans_list, first_word, component_head, enter_words, leave_words, component_line};
+ghost use Rattle.wf_words.specs.Transitions.{trans_list};
+ghost use Rattle.wf_ortho.specs.Lines.{first_word, component_head, enter_words, leave_words, component_line};
 
 use std::alloc::Global;
 use wf_model::{Bytes, Chart, Checked, List, NoMemory, StateId, TransId};
 use wf_parts::{Component, Flat};
-use wf_words::{append_number, state_name};
-
-// Adds transitions to a line, each behind a blank.
-fn add_transitions(line: &mut Bytes, transitions: &[TransId]) -> Result<(), NoMemory>
-    ensures { OnOk result (line.new ≡ line.old ++ trans_list transitions.now) }
-{
-    for t in transitions {
-        line.append(b" t")?;
-        append_number(line, t.0.into())?;
-    }
-    Ok(())
-}
+use wf_words::{add_transitions, state_name};
 
 /// Appends transitions, each behind a blank. After `NoMemory` the text is as before. Grows with them.
 pub fn append_transitions(

@@ -39,7 +39,7 @@ fn have_few_starts(updates: &[Update]) -> bool
 fn has_few_open(view: &View) -> bool
     ensures { result ≡ list_all (λ a. nat_le a.1 131072) view.now.unclosed }
 {
-    view.unclosed().iter().all(|open| open.1 <= 131_072)
+    view.open_counts().iter().all(|open| open.1 <= 131_072)
 }
 
 // Whether the view's counts have room for these updates.

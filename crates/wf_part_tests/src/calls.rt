@@ -67,17 +67,17 @@ fn are_alike(left: &View, right: &View) -> bool {
     left.states() == right.states()
         && left.vars() == right.vars()
         && left.raised() == right.raised()
-        && left.unclosed() == right.unclosed()
+        && left.open_counts() == right.open_counts()
 }
 
 /// Whether the tables of the next step show these.
 fn shows_next(alloc: Global, view: &View) -> Result<bool, NoMemory> {
     Ok(
-        view.inside(alloc)?.has(4)
+        view.states_inside(alloc)?.has(4)
             && view.vars_now(alloc)?.get(0) == Some(&Some(Val::Int(9)))
-            && view.unclosed_now(alloc)?.get(0) == Some(&Some(0))
-            && view.done_now(alloc)?.has(0)
-            && view.there_now(alloc)?.has(1),
+            && view.open_counts_now(alloc)?.get(0) == Some(&Some(0))
+            && view.done_acts_now(alloc)?.has(0)
+            && view.events_there_now(alloc)?.has(1),
     )
 }
 
@@ -88,7 +88,7 @@ fn reads_of_a_view(rt: HostRuntime) -> Result<(), Fail> {
     let view = view_after_one(alloc, WRI, script)?;
     let copy = view.copy(alloc)?;
     assert!(rt; are_alike(&view, &copy));
-    assert_eq!(rt; view.next().len(), copy.next().len());
+    assert_eq!(rt; view.next_entries().len(), copy.next_entries().len());
     assert_eq!(rt; view.raised(), &[] as &[EventId]);
     assert!(rt; shows_next(alloc, &view)?);
     Ok(())

@@ -1,7 +1,7 @@
 //! What each unit contributes to each step, and what each peer is sent of it.
 use crate::charts::{ORDER, REG};
 use crate::runs::shared_run;
-use crate::told::told;
+use crate::told::told_lines;
 use std::alloc::Global;
 use std::test::Fail;
 use wf_model::Bytes;
@@ -9,7 +9,7 @@ use wf_model::Bytes;
 /// The lines of the shares of a run.
 fn shares_told(alloc: Global, chart: &str, script: &str) -> Result<Bytes, Fail> {
     let run = shared_run(alloc, chart, script)?;
-    Ok(told(
+    Ok(told_lines(
         alloc,
         run.checked.chart(),
         run.parts.as_slice(),

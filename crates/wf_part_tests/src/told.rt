@@ -169,7 +169,7 @@ fn append_step(
 }
 
 /// The lines of all steps: the update of each unit, and below it what each peer is sent of it.
-pub fn told(
+pub fn told_lines(
     alloc: Global,
     chart: &Chart,
     parts: &[Part],

@@ -12,7 +12,7 @@ use Rattle.wf_parts.specs.Known.{concerns, is_own, is_state_of}
 use Rattle.wf_parts.specs.Reads.{reads_state, reads_var, reads_act, guard_reads, values_read}
 use Rattle.wf_scopes.proofs.Lines.{trans_get, source_read}
 use Rattle.wf_partition.specs.declared.reading.Reads.{Reads}
-use Rattle.wf_partition.specs.Marked.{marked, Adds, AreReads, counted_reads, reads_at}
+use Rattle.wf_partition.specs.Marked.{marked, Adds, AreReads, reads_at}
 use Rattle.wf_partition.proofs.Bits.{marked_none, marked_agree, marked_twice, row_more_by}
 
 -- nothing is read
@@ -63,6 +63,13 @@ adds_same one two old new adds h = record {
   acts = adds.acts ∙ marked_agree _ _ old.acts (λ a. h (reads_act a));
 }
 
+-- what counts is added, and what doesn't isn't
+pub adds_counted : (counts : Bool) (test : (Expr → Bool) → Bool) (old new : Reads) → counts ≡ true → Adds test old new → Adds (λ r. counts && test r) old new
+adds_counted counts test old new on adds = adds_same test (λ r. counts && test r) old new adds (λ r. sym (ap (λ (b : Bool). b && test r) on))
+
+pub adds_skipped : (counts : Bool) (test : (Expr → Bool) → Bool) (reads : Reads) → counts ≡ false → Adds (λ r. counts && test r) reads reads
+adds_skipped counts test reads off = adds_none (λ r. counts && test r) reads (λ r. ap (λ (b : Bool). b && test r) off)
+
 -- one piece after the other
 pub adds_both : (one two : (Expr → Bool) → Bool) (old bits new : Reads) → Adds one old bits → Adds two bits new → Adds (λ r. one r || two r) old new
 adds_both one two old bits new first second = record {
@@ -102,6 +109,10 @@ reads_more chart tests test i bits new before now same = record {
   vars = row_more_by (λ t x. tests (reads_var x) t) (λ x. test (reads_var x)) (length chart.vars) i bits.vars new.vars before.vars now.vars (λ x lt. same (reads_var x));
   acts = row_more_by (λ t a. tests (reads_act a) t) (λ a. test (reads_act a)) (length chart.acts) i bits.acts new.acts before.acts now.acts (λ a lt. same (reads_act a));
 }
+
+-- its guard reads so, where that counts, or a value that it assigns, where these count
+abbrev pub counted_reads : Bool → Bool → Transition → (Expr → Bool) → Bool
+counted_reads guard values trans reads = (guard && guard_reads reads trans) || (values && values_read reads trans)
 
 -- what one transition reads
 pub counted_at : (chart : Chart) (u t : ℕ) (guard values : Bool) (tr : Transition) → t < length chart.transitions → tr ≡ get_or chart.transitions t tr

@@ -34,6 +34,13 @@ holds_same one two old new holds h = record {
   acts = holds.acts ∙ marked_agree _ _ old.acts (λ a. h (may_start a));
 }
 
+-- what counts is added, and what doesn't isn't
+pub holds_counted : (counts : Bool) (test : (Action → Bool) → Bool) (old new : Held) → counts ≡ true → Holds test old new → Holds (λ t. counts && test t) old new
+holds_counted counts test old new on holds = holds_same test (λ t. counts && test t) old new holds (λ t. sym (ap (λ (b : Bool). b && test t) on))
+
+pub holds_skipped : (counts : Bool) (test : (Action → Bool) → Bool) (held : Held) → counts ≡ false → Holds (λ t. counts && test t) held held
+holds_skipped counts test held off = holds_none (λ t. counts && test t) held (λ t. ap (λ (b : Bool). b && test t) off)
+
 -- one piece after the other
 pub holds_both : (one two : (Action → Bool) → Bool) (old bits new : Held) → Holds one old bits → Holds two bits new → Holds (λ t. one t || two t) old new
 holds_both one two old bits new first second = record {

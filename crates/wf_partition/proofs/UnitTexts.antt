@@ -1,26 +1,18 @@
 -- The texts of units, and the states that they watch.
-use Rattle.std.proofs.Common.{◌≡◌, ℕ, suc, ◌+◌, ◌<◌, ◌≤◌, ◌∙◌, Bool, false, List, [], ◌∷◌, ◌++◌, All, length, map, filter, flat_map, get_or, cond, refl, ap, arith, append-nil}
-use Rattle.std.proofs.lemmas.Bool.Decides.{nat_tests}
+use Rattle.std.proofs.Common.{◌≡◌, ℕ, suc, ◌+◌, ◌<◌, ◌∙◌, Bool, false, List, [], ◌∷◌, ◌++◌, All, length, map, filter, flat_map, get_or, cond, refl, ap, arith, append-nil}
 use Rattle.std.proofs.lemmas.Grind.{flat_map-append}
 use Rattle.std.proofs.lemmas.List.Elements.{All-map, All-filter}
 use Rattle.std.proofs.lemmas.List.FromFn.{length-enumerate_from, get_or-enumerate_from}
 use Rattle.std.specs.List.{range_with_len, enumerate_from}
-use Rattle.wf_model.specs.Limits.{max_units}
 use Rattle.wf_model.specs.declared.chart.Chart.{Chart}
 use Rattle.wf_model.specs.declared.chart.State.{State}
 use Rattle.wf_parts.specs.declared.data.KnownState.{KnownState}
 use Rattle.wf_parts.specs.declared.data.PartData.{PartData}
-use Rattle.wf_model.specs.Accepted.{IsAccepted, is_accepted, is_small}
 use Rattle.wf_model.specs.Tree.{all_states}
 use Rattle.wf_model.proofs.Rows.{row_at, range_more}
 use Rattle.wf_parts.specs.Known.{watches_state, knows_state}
 use Rattle.wf_parts.specs.Parts.{part_of, known_state, numbered}
 use Rattle.wf_partition.specs.SplitText.{bit, AreWatched}
-
--- an accepted chart has few units
-pub few_units : (chart : Chart) → IsAccepted chart → length chart.units ≤ max_units
-unfolding is_accepted is_small
-few_units chart h = grind (arith, nat_tests)
 
 -- one more number makes one more piece
 pub pieces_more : {A : Type 0} (f : ℕ → List A) (n : ℕ) → flat_map f (range_with_len 0 (n + 1)) ≡ flat_map f (range_with_len 0 n) ++ f n

@@ -2,7 +2,6 @@
 use Rattle.std.specs.Prelude.{ℕ, ◌≡◌, ◌+◌, ◌||◌, ◌&&◌, ◌==◌, Bool, false, List, [], ◌∷◌, length, map, slice_index_or}
 use Rattle.std.specs.List.{range_with_len, list_any}
 use Rattle.wf_model.specs.declared.expr.Expr.{Expr}
-use Rattle.wf_model.specs.declared.chart.Transition.{Transition}
 use Rattle.wf_model.specs.declared.chart.Chart.{Chart}
 use Rattle.wf_parts.specs.declared.data.Component.{Component}
 use Rattle.wf_model.specs.Tree.{all_states, all_transitions, all_events, all_acts, source}
@@ -35,10 +34,6 @@ pub record AreReads (chart : Chart) (test : (Expr → Bool) → Bool) (reads : R
   pub states : reads.states ≡ map (λ s. test (reads_state s)) (all_states chart)
   pub vars : reads.vars ≡ map (λ x. test (reads_var x)) (range_with_len 0 (length chart.vars))
   pub acts : reads.acts ≡ map (λ a. test (reads_act a)) (all_acts chart)
-
--- its guard reads so, where that counts, or a value that it assigns, where these count
-abbrev pub counted_reads : Bool → Bool → Transition → (Expr → Bool) → Bool
-counted_reads guard values trans reads = (guard && guard_reads reads trans) || (values && values_read reads trans)
 
 -- transition t is one that concerns u, whose guard reads so, or u's own, and a value that it assigns reads so
 abbrev pub reads_at : Chart → ℕ → (Expr → Bool) → ℕ → Bool

@@ -9,7 +9,8 @@ use Rattle.wf_model.specs.declared.chart.Chart.{Chart}
 use Rattle.wf_words.specs.Names.{state_name, var_name, event_name, act_name}
 use Rattle.wf_parts.specs.Known.{watches_state}
 use Rattle.wf_parts.specs.Parts.{part_of}
-use Rattle.wf_ortho.specs.Lines.{trans_list, component_line}
+use Rattle.wf_words.specs.Transitions.{trans_list}
+use Rattle.wf_ortho.specs.Lines.{component_line}
 
 abbrev pub own_word : Bool → List ℕ
 own_word true = codes " own"

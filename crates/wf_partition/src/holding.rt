@@ -1,6 +1,6 @@
 //! What may stand in a unit's updates.
-ghost use Rattle.std.specs.Prelude.{◌≡◌, ◌==◌, ◌&&◌, ◌||◌, length, map, false, IfOk};
-ghost use Rattle.std.specs.List.{list_any, range_with_len};
+ghost use Rattle.std.specs.Prelude.{◌≡◌, ◌==◌, map, false, IfOk};
+ghost use Rattle.std.specs.List.{list_any};
 ghost use Rattle.std.specs.Option.{option_map_or};
 ghost use Rattle.wf_model.specs.Tree.{all_states, all_transitions, all_events, all_acts};
 ghost use Rattle.wf_semantics.specs.Admission.{is_event_at, is_act_at};
@@ -86,22 +86,14 @@ fn add_actions(held: &mut Held, actions: &[Action])
     }
 }
 
-// Adds what the actions of a transition may change, where it counts.
-fn add_transition(held: &mut Held, transition: &Transition, counts: bool)
-    ensures { Holds (λ test. counts && list_any test transition.now.actions) held.old held.new }
-{
-    if counts {
-        add_actions(held, transition.actions.as_slice());
-    }
-}
-
 // Adds what the unit's own transitions may change. Grows with the transitions and their actions.
 fn add_own(held: &mut Held, chart: &Chart, unit: UnitId)
     ensures { Holds (λ test. list_any (has_at chart.now unit.0 test) (all_transitions chart.now)) held.old held.new }
 {
     for transition in chart.transitions.as_slice() {
-        let own = is_state_of(chart, unit, transition.source);
-        add_transition(held, transition, own);
+        if is_state_of(chart, unit, transition.source) {
+            add_actions(held, transition.actions.as_slice());
+        }
     }
 }
 
@@ -114,21 +106,14 @@ fn mark_vars(vars: &mut List<bool>, outputs: &[VarId])
     }
 }
 
-// Sets the bits of an activity's outputs, where it counts.
-fn mark_outputs(vars: &mut List<bool>, act: &Activity, counts: bool)
-    ensures { vars.new ≡ marked (λ x. counts && list_any (λ v. v.0 == x) act.now.outputs) vars.old }
-{
-    if counts {
-        mark_vars(vars, act.outputs.as_slice());
-    }
-}
-
 // Sets the bits of the outputs of the unit's activities. Grows with the activities and their outputs.
 fn mark_given(vars: &mut List<bool>, chart: &Chart, unit: UnitId)
     ensures { vars.new ≡ marked (λ x. list_any (gives_at chart.now unit.0 x) (all_acts chart.now)) vars.old }
 {
     for act in chart.acts.as_slice() {
-        mark_outputs(vars, act, act.unit.0 == unit.0);
+        if act.unit.0 == unit.0 {
+            mark_vars(vars, act.outputs.as_slice());
+        }
     }
 }
 

@@ -1,5 +1,5 @@
 //! What each unit knows of a chart.
-ghost use Rattle.std.specs.Prelude.{◌≡◌, ◌&&◌, ◌||◌, length, map, false, slice_index_or, IfOk};
+ghost use Rattle.std.specs.Prelude.{◌≡◌, ◌||◌, length, map, false, slice_index_or, IfOk};
 ghost use Rattle.std.specs.List.{list_any, range_with_len};
 ghost use Rattle.wf_model.specs.Tree.{all_transitions};
 ghost use Rattle.wf_parts.specs.Reads.{is_on};
@@ -8,7 +8,7 @@ ghost use Rattle.wf_parts.specs.Known.{concerns};
 ghost use Rattle.wf_partition.specs.Marked.{marked, triggers_at, unit_bits};
 
 use crate::holding::{Held, acts_at, events_at, held_by, states_at};
-use crate::marks::{concerned, seen_by};
+use crate::marks::{concerned_bits, seen_by};
 use crate::reading::{is_set, mark, none_set};
 use std::alloc::Global;
 use wf_model::{Chart, Checked, List, NoMemory, Transition, UnitId};
@@ -33,15 +33,13 @@ pub struct UnitBits {
     pub acts: List<bool>,
 }
 
-// Sets the bit of the event of a transition, where it counts.
-fn mark_event(events: &mut List<bool>, transition: &Transition, counts: bool)
-    ensures { events.new ≡ marked (λ n. counts && is_on n transition.now) events.old }
+// Sets the bit of the event of a transition.
+fn mark_event(events: &mut List<bool>, transition: &Transition)
+    ensures { events.new ≡ marked (λ n. is_on n transition.now) events.old }
 {
-    if counts {
-        match transition.event {
-            Some(event) => mark(events, event.0),
-            None => {}
-        }
+    match transition.event {
+        Some(event) => mark(events, event.0),
+        None => {}
     }
 }
 
@@ -51,7 +49,9 @@ fn triggers(alloc: Global, chart: &Chart, concerned: &[bool]) -> Result<List<boo
 {
     let mut events = none_set(alloc, chart.events.len())?;
     for (t, transition) in chart.transitions.as_slice().iter().enumerate() {
-        mark_event(&mut events, transition, is_set(concerned, t));
+        if is_set(concerned, t) {
+            mark_event(&mut events, transition);
+        }
     }
     Ok(events)
 }
@@ -64,7 +64,7 @@ fn is_either(one: &List<bool>, other: &List<bool>, at: usize) -> bool
 }
 
 // For each bit of the first, whether it or the other's is set. Grows with them.
-fn either(alloc: Global, one: &List<bool>, other: &List<bool>) -> Result<List<bool>, NoMemory>
+fn either_bits(alloc: Global, one: &List<bool>, other: &List<bool>) -> Result<List<bool>, NoMemory>
     ensures { IfOk result (λ bits. bits ≡ map (λ k. slice_index_or one.now k false || slice_index_or other.now k false) (range_with_len 0 (length one.now))) }
 {
     let mut bits = List::new(alloc);
@@ -89,11 +89,11 @@ fn bits_where(
     let states_at = states_at(alloc, chart, unit)?;
     let events_at = events_at(alloc, chart, unit)?;
     let acts_at = acts_at(alloc, chart, unit)?;
-    let states = either(alloc, &states_at, &seen.states)?;
-    let events = either(alloc, &events_at, &triggers)?;
-    let acts = either(alloc, &acts_at, &seen.acts)?;
+    let states = either_bits(alloc, &states_at, &seen.states)?;
+    let events = either_bits(alloc, &events_at, &triggers)?;
+    let acts = either_bits(alloc, &acts_at, &seen.acts)?;
     let held = held_by(alloc, chart, unit, states_at, events_at, acts_at)?;
-    let vars = either(alloc, &seen.vars, &held.vars)?;
+    let vars = either_bits(alloc, &seen.vars, &held.vars)?;
     Ok(UnitBits {
         concerned,
         watched: seen.states,
@@ -115,7 +115,7 @@ fn bits_of(
     requires flat { flat.now ≡ flat_of checked.now }
     ensures { IfOk result (λ bits. bits ≡ unit_bits checked.now unit.0) }
 {
-    let concerned = concerned(alloc, checked, flat, unit)?;
+    let concerned = concerned_bits(alloc, checked, flat, unit)?;
     bits_where(alloc, checked.chart(), concerned, unit)
 }
 

@@ -1,5 +1,5 @@
 //! Which transitions concern a unit, and what these read.
-ghost use Rattle.std.specs.Prelude.{◌≡◌, ◌==◌, ◌&&◌, map, IfOk};
+ghost use Rattle.std.specs.Prelude.{◌≡◌, ◌==◌, map, IfOk};
 ghost use Rattle.std.specs.List.{list_any};
 ghost use Rattle.wf_model.specs.Tree.{all_transitions};
 ghost use Rattle.wf_parts.specs.Components.{flat_of};
@@ -20,19 +20,17 @@ fn mark_all(bits: &mut List<bool>, transitions: &[TransId])
     }
 }
 
-// Sets the bits of the transitions of a component, where it counts. Grows with them.
-fn mark_component(bits: &mut List<bool>, component: &Component, counts: bool)
-    ensures { bits.new ≡ marked (λ t. counts && moves component.now t) bits.old }
+// Sets the bits of the transitions of a component. Grows with them.
+fn mark_component(bits: &mut List<bool>, component: &Component)
+    ensures { bits.new ≡ marked (moves component.now) bits.old }
 {
-    if counts {
-        mark_all(bits, component.enter.as_slice());
-        mark_all(bits, component.leave.as_slice());
-    }
+    mark_all(bits, component.enter.as_slice());
+    mark_all(bits, component.leave.as_slice());
 }
 
 /// For each transition, whether it concerns the unit. Grows with the states and the transitions, and with the transitions of the unit's
 /// components.
-pub fn concerned(
+pub fn concerned_bits(
     alloc: Global,
     checked: &Checked,
     flat: &Flat,
@@ -44,19 +42,11 @@ pub fn concerned(
     let chart = checked.chart();
     let mut bits = none_set(alloc, chart.transitions.len())?;
     for component in flat.components.as_slice() {
-        let counts = is_state_of(chart, unit, component.state);
-        mark_component(&mut bits, component, counts);
+        if is_state_of(chart, unit, component.state) {
+            mark_component(&mut bits, component);
+        }
     }
     Ok(bits)
-}
-
-// Sets the bit of a number, where that counts and it has one.
-fn mark_if(bits: &mut List<bool>, at: u32, counts: bool)
-    ensures { bits.new ≡ marked (λ k. counts && (at == k)) bits.old }
-{
-    if counts {
-        mark(bits, at);
-    }
 }
 
 // Sets the bits of the states from which the transitions lead that concern a unit. Grows with the transitions.
@@ -64,7 +54,9 @@ fn mark_sources(bits: &mut List<bool>, chart: &Chart, concerned: &[bool])
     ensures { bits.new ≡ marked (λ s. list_any (leads_from chart.now concerned.now s) (all_transitions chart.now)) bits.old }
 {
     for (t, transition) in chart.transitions.as_slice().iter().enumerate() {
-        mark_if(bits, transition.source.0, is_set(concerned, t));
+        if is_set(concerned, t) {
+            mark(bits, transition.source.0);
+        }
     }
 }
 

@@ -1,10 +1,10 @@
 //! What guards and assigned values read.
-ghost use Rattle.std.specs.Prelude.{◌≡◌, ◌==◌, ◌&&◌, map, false, slice_index_or, IfOk};
+ghost use Rattle.std.specs.Prelude.{◌≡◌, ◌==◌, map, false, slice_index_or, IfOk};
 ghost use Rattle.std.specs.List.{list_any, range_with_len};
 ghost use Rattle.wf_model.specs.Tree.{all_transitions};
-ghost use Rattle.wf_parts.specs.Reads.{guard_reads, values_read, action_reads};
+ghost use Rattle.wf_parts.specs.Reads.{guard_reads, action_reads};
 ghost use Rattle.wf_parts.specs.Known.{concerns, is_state_of, is_read};
-ghost use Rattle.wf_partition.specs.Marked.{marked, Adds, AreReads, counted_reads};
+ghost use Rattle.wf_partition.specs.Marked.{marked, Adds, AreReads};
 
 use std::alloc::Global;
 use wf_model::{Action, Chart, Expr, List, NoMemory, StateId, Transition, UnitId};
@@ -79,15 +79,13 @@ fn add_expr(reads: &mut Reads, expr: &Expr)
     }
 }
 
-// Adds what a guard reads, where it counts.
-fn add_guard(reads: &mut Reads, transition: &Transition, counts: bool)
-    ensures { Adds (λ r. counts && guard_reads r transition.now) reads.old reads.new }
+// Adds what a guard reads.
+fn add_guard(reads: &mut Reads, transition: &Transition)
+    ensures { Adds (λ r. guard_reads r transition.now) reads.old reads.new }
 {
-    if counts {
-        match &transition.guard {
-            Some(guard) => add_expr(reads, guard),
-            None => {}
-        }
+    match &transition.guard {
+        Some(guard) => add_expr(reads, guard),
+        None => {}
     }
 }
 
@@ -109,23 +107,6 @@ fn add_actions(reads: &mut Reads, actions: &[Action])
     for action in actions {
         add_action(reads, action);
     }
-}
-
-// Adds what assigned values read, where they count.
-fn add_values(reads: &mut Reads, transition: &Transition, counts: bool)
-    ensures { Adds (λ r. counts && values_read r transition.now) reads.old reads.new }
-{
-    if counts {
-        add_actions(reads, transition.actions.as_slice());
-    }
-}
-
-// Adds what a transition reads: its guard, where that counts, and the values that it assigns, where these count.
-fn add_transition(reads: &mut Reads, transition: &Transition, guard: bool, values: bool)
-    ensures { Adds (counted_reads guard values transition.now) reads.old reads.new }
-{
-    add_guard(reads, transition, guard);
-    add_values(reads, transition, values);
 }
 
 // Nothing is read.
@@ -151,8 +132,12 @@ pub fn read_by(
 {
     let mut reads = nothing_read(alloc, chart)?;
     for (t, transition) in chart.transitions.as_slice().iter().enumerate() {
-        let own = is_state_of(chart, unit, transition.source);
-        add_transition(&mut reads, transition, is_set(concerned, t), own);
+        if is_set(concerned, t) {
+            add_guard(&mut reads, transition);
+        }
+        if is_state_of(chart, unit, transition.source) {
+            add_actions(&mut reads, transition.actions.as_slice());
+        }
     }
     Ok(reads)
 }

@@ -16,8 +16,8 @@ number = do
   pure (v.Int (pos n))
 
 -- - INT
-unfoldable pub negated : Parser Val
-negated = do
+unfoldable pub negative_number : Parser Val
+negative_number = do
   take
   n ← input.negated_int
   pure (v.Int (neg_ℤ (pos n)))
@@ -32,7 +32,7 @@ abbrev pub literal_by : Option Piece → Parser Val
 literal_by (Some pieces.True) = take >> pure (v.Bool true)
 literal_by (Some pieces.False) = take >> pure (v.Bool false)
 literal_by (Some pieces.Int) = number
-literal_by (Some pieces.Minus) = negated
+literal_by (Some pieces.Minus) = negative_number
 literal_by (Some pieces.Text) = characters
 literal_by _ = syntax
 

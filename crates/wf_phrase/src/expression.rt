@@ -13,7 +13,7 @@ fn parens(alloc: Global, cursor: &mut Cursor<'_>, depth: usize) -> Result<Expr, 
     ensures { Reads (spec.parens depth cursor.old) result cursor.new }
 {
     if depth == 0 {
-        return Err(cursor.oversize());
+        return Err(cursor.oversize_fault());
     }
     cursor.take();
     let rules = Rules {

@@ -24,9 +24,9 @@ fn number(cursor: &mut Cursor<'_>) -> Result<Val, TextFault>
     Ok(Val::Int(number as i64))
 }
 
-#[tactic(auto, unfolding(crate::specs::Literals::negated))]
-fn negated(cursor: &mut Cursor<'_>) -> Result<Val, TextFault>
-    ensures reads { ReadsExactly (spec.negated cursor.old) result cursor.new }
+#[tactic(auto, unfolding(crate::specs::Literals::negative_number))]
+fn negative_number(cursor: &mut Cursor<'_>) -> Result<Val, TextFault>
+    ensures reads { ReadsExactly (spec.negative_number cursor.old) result cursor.new }
     ensures stays { OnErr result (cursor.new ≡ next cursor.old) }
 {
     cursor.take();
@@ -60,7 +60,7 @@ pub fn literal(cursor: &mut Cursor<'_>) -> Result<Val, TextFault>
             Ok(Val::Bool(false))
         }
         Some(Piece::Int) => number(cursor),
-        Some(Piece::Minus) => negated(cursor),
+        Some(Piece::Minus) => negative_number(cursor),
         Some(Piece::Text) => characters(cursor),
         _ => Err(cursor.syntax()),
     }

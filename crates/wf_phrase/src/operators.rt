@@ -66,7 +66,7 @@ pub fn product_operator(piece: Option<Piece>) -> Option<Op>
 }
 
 /// Both sides under an operator.
-pub fn binary(alloc: Global, op: Op, left: Expr, right: Expr) -> Result<Expr, NoMemory>
+pub fn binary_expr(alloc: Global, op: Op, left: Expr, right: Expr) -> Result<Expr, NoMemory>
     ensures { IfOk result (λ e. e ≡ Expr.Bin op left right) }
 {
     Ok(Expr::Bin(op, Boxed::new(alloc, left)?, Boxed::new(alloc, right)?))
@@ -80,7 +80,7 @@ pub fn negation(alloc: Global, operand: Expr) -> Result<Expr, NoMemory>
 }
 
 /// The operand under `-`.
-pub fn negative(alloc: Global, operand: Expr) -> Result<Expr, NoMemory>
+pub fn negative_of(alloc: Global, operand: Expr) -> Result<Expr, NoMemory>
     ensures { IfOk result (λ e. e ≡ Expr.Neg operand) }
 {
     Ok(Expr::Neg(Boxed::new(alloc, operand)?))

@@ -6,7 +6,7 @@ ghost use Rattle.wf_phrase.specs.Operators as spec_of;
 ghost use Rattle.wf_phrase.specs.Nests.{Nests};
 
 use crate::operators::{
-    and_operator, binary, comparison, negation, negative, or_operator, product_operator,
+    and_operator, binary_expr, comparison, negation, negative_of, or_operator, product_operator,
     sum_operator,
 };
 use std::alloc::Global;
@@ -21,7 +21,7 @@ fn open_paren(cursor: &mut Cursor<'_>, depth: usize) -> Result<(), TextFault>
     if !cursor.sees(Piece::OpenParen) {
         Err(cursor.syntax())
     } else if depth == 0 {
-        Err(cursor.oversize())
+        Err(cursor.oversize_fault())
     } else {
         cursor.take();
         Ok(())
@@ -141,21 +141,21 @@ impl<F: Fn(Global, &mut Cursor<'_>, usize) -> Result<Expr, TextFault>> Rules<F> 
         cursor.node()?;
         cursor.take();
         let operand = self.unary(cursor)?;
-        Ok(negative(self.alloc, operand)?)
+        Ok(negative_of(self.alloc, operand)?)
     }
 
     fn prod_rest(&self, cursor: &mut Cursor<'_>, mut left: Expr) -> Result<Expr, TextFault>
         requires { Nests self.now.depth (F.pre self.now.nested) (F.post self.now.nested) }
         ensures { Reads (spec.rest_of spec_of.product_operator (spec.unary self.now.depth (spec.parens self.now.depth)) left cursor.old) result cursor.new }
     {
-        for _turn in 0..cursor.left() {
+        for _turn in 0..cursor.tokens_left() {
             let Some(op) = product_operator(cursor.peek()) else {
                 return Ok(left);
             };
             cursor.node()?;
             cursor.take();
             let right = self.unary(cursor)?;
-            left = binary(self.alloc, op, left, right)?;
+            left = binary_expr(self.alloc, op, left, right)?;
         }
         Ok(left)
     }
@@ -173,14 +173,14 @@ impl<F: Fn(Global, &mut Cursor<'_>, usize) -> Result<Expr, TextFault>> Rules<F> 
         requires { Nests self.now.depth (F.pre self.now.nested) (F.post self.now.nested) }
         ensures { Reads (spec.rest_of spec_of.sum_operator (spec.prod self.now.depth (spec.parens self.now.depth)) left cursor.old) result cursor.new }
     {
-        for _turn in 0..cursor.left() {
+        for _turn in 0..cursor.tokens_left() {
             let Some(op) = sum_operator(cursor.peek()) else {
                 return Ok(left);
             };
             cursor.node()?;
             cursor.take();
             let right = self.prod(cursor)?;
-            left = binary(self.alloc, op, left, right)?;
+            left = binary_expr(self.alloc, op, left, right)?;
         }
         Ok(left)
     }
@@ -206,7 +206,7 @@ impl<F: Fn(Global, &mut Cursor<'_>, usize) -> Result<Expr, TextFault>> Rules<F> 
         cursor.node()?;
         cursor.take();
         let right = self.sum(cursor)?;
-        Ok(binary(self.alloc, op, left, right)?)
+        Ok(binary_expr(self.alloc, op, left, right)?)
     }
 
     #[tactic(auto, unfolding(crate::specs::Expressions::neg_from))]
@@ -227,14 +227,14 @@ impl<F: Fn(Global, &mut Cursor<'_>, usize) -> Result<Expr, TextFault>> Rules<F> 
         requires { Nests self.now.depth (F.pre self.now.nested) (F.post self.now.nested) }
         ensures { Reads (spec.rest_of spec_of.and_operator (spec.neg self.now.depth (spec.parens self.now.depth)) left cursor.old) result cursor.new }
     {
-        for _turn in 0..cursor.left() {
+        for _turn in 0..cursor.tokens_left() {
             let Some(op) = and_operator(cursor.peek()) else {
                 return Ok(left);
             };
             cursor.node()?;
             cursor.take();
             let right = self.neg(cursor)?;
-            left = binary(self.alloc, op, left, right)?;
+            left = binary_expr(self.alloc, op, left, right)?;
         }
         Ok(left)
     }
@@ -252,14 +252,14 @@ impl<F: Fn(Global, &mut Cursor<'_>, usize) -> Result<Expr, TextFault>> Rules<F> 
         requires { Nests self.now.depth (F.pre self.now.nested) (F.post self.now.nested) }
         ensures { Reads (spec.rest_of spec_of.or_operator (spec.conj self.now.depth (spec.parens self.now.depth)) left cursor.old) result cursor.new }
     {
-        for _turn in 0..cursor.left() {
+        for _turn in 0..cursor.tokens_left() {
             let Some(op) = or_operator(cursor.peek()) else {
                 return Ok(left);
             };
             cursor.node()?;
             cursor.take();
             let right = self.conj(cursor)?;
-            left = binary(self.alloc, op, left, right)?;
+            left = binary_expr(self.alloc, op, left, right)?;
         }
         Ok(left)
     }

@@ -25,13 +25,13 @@ outcome_named word =
     if bytes_eq word (codes "keep") then Some Keep
     else (if bytes_eq word (codes "lose") then Some Lose else (if bytes_eq word (codes "torn") then Some Torn else None))
 
-abbrev pub positive : Option ℕ → Option ℕ
-positive None = None
-positive (Some n) = if n == 0 then None else Some n
+abbrev pub positive_count : Option ℕ → Option ℕ
+positive_count None = None
+positive_count (Some n) = if n == 0 then None else Some n
 
 -- INT, from 1 to this
 abbrev pub count_at : ℕ → List ℕ → Token → Option ℕ
-count_at most line token = positive (int_at most line token)
+count_at most line token = positive_count (int_at most line token)
 
 -- how many strokes ahead an arm may be set
 abbrev pub max_stroke : ℕ
@@ -61,31 +61,31 @@ two_words names line word other =
 -- LINES OF THREE WORDS
 
 -- from one unit to another, where there are both
-abbrev pub sending : Option ℕ → Option ℕ → Option Line
-sending None to = None
-sending (Some u) None = None
-sending (Some u) (Some v) = if u == v then None else Some (lines.Send (unit_id u) (unit_id v))
+abbrev pub send_line : Option ℕ → Option ℕ → Option Line
+send_line None to = None
+send_line (Some u) None = None
+send_line (Some u) (Some v) = if u == v then None else Some (lines.Send (unit_id u) (unit_id v))
 
-abbrev pub crashing : Option ℕ → Option Outcome → Option Line
-crashing None outcome = None
-crashing (Some u) None = None
-crashing (Some u) (Some outcome) = Some (lines.Crash (unit_id u) outcome)
+abbrev pub crash_line : Option ℕ → Option Outcome → Option Line
+crash_line None outcome = None
+crash_line (Some u) None = None
+crash_line (Some u) (Some outcome) = Some (lines.Crash (unit_id u) outcome)
 
 -- send U V | crash U OUTCOME
 abbrev pub three_words : Finder → List ℕ → (word unit other : Token) → Option Line
 three_words names line word unit other =
-    if bytes_eq (text_at line word) (codes "send") then sending (names.unit (text_at line unit)) (names.unit (text_at line other))
+    if bytes_eq (text_at line word) (codes "send") then send_line (names.unit (text_at line unit)) (names.unit (text_at line other))
     else (if bytes_eq (text_at line word) (codes "crash")
-    then crashing (names.unit (text_at line unit)) (outcome_named (text_at line other))
+    then crash_line (names.unit (text_at line unit)) (outcome_named (text_at line other))
     else None)
 
 -- LONGER LINES
 
-abbrev pub admitting : Option ℕ → Option ℕ → Option Outer → Option Line
-admitting None request outer = None
-admitting (Some u) None outer = None
-admitting (Some u) (Some request) None = None
-admitting (Some u) (Some request) (Some outer) = Some (lines.Admit (unit_id u) request outer)
+abbrev pub admit_line : Option ℕ → Option ℕ → Option Outer → Option Line
+admit_line None request outer = None
+admit_line (Some u) None outer = None
+admit_line (Some u) (Some request) None = None
+admit_line (Some u) (Some request) (Some outer) = Some (lines.Admit (unit_id u) request outer)
 
 -- fail | crash OUTCOME
 abbrev pub arm_of : List ℕ → (kind : List ℕ) → List Token → Option Arm
@@ -94,19 +94,19 @@ arm_of line kind (outcome ∷ []) =
     if bytes_eq kind (codes "crash") then option_map (λ o. arms.Crash o) (outcome_named (text_at line outcome)) else None
 arm_of line kind (outcome ∷ other ∷ more) = None
 
-abbrev pub arming : Option ℕ → Option ℕ → Option Arm → Option Line
-arming None stroke what = None
-arming (Some u) None what = None
-arming (Some u) (Some stroke) None = None
-arming (Some u) (Some stroke) (Some what) = Some (lines.Arm (unit_id u) stroke what)
+abbrev pub arm_line : Option ℕ → Option ℕ → Option Arm → Option Line
+arm_line None stroke what = None
+arm_line (Some u) None what = None
+arm_line (Some u) (Some stroke) None = None
+arm_line (Some u) (Some stroke) (Some what) = Some (lines.Arm (unit_id u) stroke what)
 
 -- admit U R OUTER | arm U N ARM
 abbrev pub more_words : Finder → List ℕ → (word unit number kind : Token) → List Token → Option Line
 more_words names line word unit number kind tokens =
     if bytes_eq (text_at line word) (codes "admit")
-    then admitting (names.unit (text_at line unit)) (int_at max_int line number) (outer_of names line (text_at line kind) tokens)
+    then admit_line (names.unit (text_at line unit)) (int_at max_int line number) (outer_of names line (text_at line kind) tokens)
     else (if bytes_eq (text_at line word) (codes "arm")
-    then arming (names.unit (text_at line unit)) (count_at max_stroke line number) (arm_of line (text_at line kind) tokens)
+    then arm_line (names.unit (text_at line unit)) (count_at max_stroke line number) (arm_of line (text_at line kind) tokens)
     else None)
 
 -- ALL LINES

@@ -31,9 +31,9 @@ fn outcome_named(word: &[u8]) -> Option<Outcome>
     }
 }
 
-fn positive(number: Option<u64>) -> Option<u32>
+fn positive_count(number: Option<u64>) -> Option<u32>
     requires { IfSome number (λ n. n ≤ u32.MAX) }
-    ensures { result ≡ spec.positive number }
+    ensures { result ≡ spec.positive_count number }
 {
     match number {
         None | Some(0) => None,
@@ -46,7 +46,7 @@ fn count_at(most: u64, line: &[u8], token: &Token) -> Option<u32>
     requires { most ≤ u32.MAX }
     ensures { result ≡ spec.count_at most line.now token.now }
 {
-    positive(int_at(most, line, token))
+    positive_count(int_at(most, line, token))
 }
 
 fn command(word: &[u8]) -> Option<Line>
@@ -76,7 +76,7 @@ fn unit_line(word: &[u8], unit: Option<u32>) -> Option<Line>
     }
 }
 
-fn delivering(message: Option<u32>) -> Option<Line>
+fn deliver_line(message: Option<u32>) -> Option<Line>
     ensures { result ≡ option_map (λ m. lines.Deliver m) message }
 {
     Some(Line::Deliver { message: message? })
@@ -87,14 +87,14 @@ fn two_words(names: &Names, line: &[u8], word: &Token, other: &Token) -> Option<
     ensures { result ≡ spec.two_words (finder_of names.now) line.now word.now other.now }
 {
     if text_at(line, word) == b"deliver".as_slice() {
-        delivering(count_at(u32::MAX.into(), line, other))
+        deliver_line(count_at(u32::MAX.into(), line, other))
     } else {
         unit_line(text_at(line, word), names.unit(text_at(line, other)))
     }
 }
 
-fn sending(from: Option<u32>, to: Option<u32>) -> Option<Line>
-    ensures { result ≡ spec.sending from to }
+fn send_line(from: Option<u32>, to: Option<u32>) -> Option<Line>
+    ensures { result ≡ spec.send_line from to }
 {
     let (from, to) = (from?, to?);
     if from == to {
@@ -107,8 +107,8 @@ fn sending(from: Option<u32>, to: Option<u32>) -> Option<Line>
     }
 }
 
-fn crashing(unit: Option<u32>, outcome: Option<Outcome>) -> Option<Line>
-    ensures { result ≡ spec.crashing unit outcome }
+fn crash_line(unit: Option<u32>, outcome: Option<Outcome>) -> Option<Line>
+    ensures { result ≡ spec.crash_line unit outcome }
 {
     Some(Line::Crash {
         unit: UnitId(unit?),
@@ -127,12 +127,12 @@ fn three_words(
     ensures { result ≡ spec.three_words (finder_of names.now) line.now word.now unit.now other.now }
 {
     if text_at(line, word) == b"send".as_slice() {
-        sending(
+        send_line(
             names.unit(text_at(line, unit)),
             names.unit(text_at(line, other)),
         )
     } else if text_at(line, word) == b"crash".as_slice() {
-        crashing(
+        crash_line(
             names.unit(text_at(line, unit)),
             outcome_named(text_at(line, other)),
         )
@@ -141,8 +141,8 @@ fn three_words(
     }
 }
 
-fn admitting(unit: Option<u32>, request: Option<u64>, outer: Option<Outer>) -> Option<Line>
-    ensures { result ≡ spec.admitting unit request outer }
+fn admit_line(unit: Option<u32>, request: Option<u64>, outer: Option<Outer>) -> Option<Line>
+    ensures { result ≡ spec.admit_line unit request outer }
 {
     Some(Line::Admit {
         unit: UnitId(unit?),
@@ -180,8 +180,8 @@ fn arm_of(line: &[u8], kind: &[u8], tokens: &[Token]) -> Option<Arm>
     }
 }
 
-fn arming(unit: Option<u32>, stroke: Option<u32>, what: Option<Arm>) -> Option<Line>
-    ensures { result ≡ spec.arming unit stroke what }
+fn arm_line(unit: Option<u32>, stroke: Option<u32>, what: Option<Arm>) -> Option<Line>
+    ensures { result ≡ spec.arm_line unit stroke what }
 {
     Some(Line::Arm {
         unit: UnitId(unit?),
@@ -206,10 +206,10 @@ fn more_words(
     let unit = names.unit(text_at(line, unit));
     if text_at(line, word) == b"admit".as_slice() {
         let outer = outer_of(alloc, names, line, text_at(line, kind), tokens)?;
-        Ok(admitting(unit, int_at(MAX_INT, line, number), outer))
+        Ok(admit_line(unit, int_at(MAX_INT, line, number), outer))
     } else if text_at(line, word) == b"arm".as_slice() {
         let what = arm_of(line, text_at(line, kind), tokens);
-        Ok(arming(unit, count_at(MAX_STROKE, line, number), what))
+        Ok(arm_line(unit, count_at(MAX_STROKE, line, number), what))
     } else {
         Ok(None)
     }

@@ -4,7 +4,8 @@
 //!   answers the merged list of the units' histories; if they agree, it is a run of the chart, over
 //!   which each unit shows the central state. Both refuse only if memory runs out.
 //! - Doesn't say: that servers did so; `wf_histories` says when histories agree.
-//! - A caller: none; no command shows shares or a merged list of histories.
+//! - A caller: `wf_world` works out the merged list of its units' histories as a play ends, with
+//!   `places_by_turn` and `places_in_order`. No command shows shares.
 //! - A change of what a share is begins in `Shares` of `wf_lockstep`, one of the merged list in
 //!   `Agreement` of `wf_histories`.
 #![tactic(auto)]

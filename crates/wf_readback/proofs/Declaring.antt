@@ -180,7 +180,7 @@ text_step t i ws m h at =
     (λ token rest same. text_here i token rest i.at i.nodes t (ap (λ (l : Lexeme). l.piece) same ∙ characters_is (quoted t)) (ap (λ (l : Lexeme). short_text l.bytes) same ∙ text_is_read t h))
 
 pub literal_step : (value : Val) (i : Input) (ws : List Lexeme) (m : Made) → is_short_value value ≡ true → At i (lexemes_of (literal_spans value) ++ ws) m → Answers (lit.literal i) value ws m
-unfolding lit.literal lit.number lit.negated lit.characters input.int input.negated_int
+unfolding lit.literal lit.number lit.negative_number lit.characters input.int input.negated_int
 literal_step (v.Bool true) i ws m h at = record { behind = next i; is = rw (piece_at i _ m at ∙ ap Some true_is) refl; at = next_at i _ ws m at }
 literal_step (v.Bool false) i ws m h at = record { behind = next i; is = rw (piece_at i _ m at ∙ ap Some false_is) refl; at = next_at i _ ws m at }
 literal_step (v.Int (pos n)) i ws m h at =

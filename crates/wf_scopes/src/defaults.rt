@@ -7,8 +7,6 @@ ghost use Rattle.wf_semantics.specs.Configuration.{is_in};
 ghost use Rattle.wf_semantics.specs.Entry.{default_tree, first_child};
 ghost use Rattle.wf_semantics.specs.Picks.{picked_by};
 
-use crate::entries::parent_at;
-use crate::lineages::kind_of;
 use std::alloc::Global;
 use wf_model::{Chart, Kind, List, NoMemory, StateId};
 
@@ -19,7 +17,7 @@ fn is_first(chart: &Chart, p: StateId, z: StateId) -> bool
     requires later { p.0 < z.0 }
     ensures { result ≡ picked_by (kind chart.now p.0) (first_child chart.now p.0) z.0 }
 {
-    match kind_of(chart, p) {
+    match chart.kind(p) {
         Kind::Basic => false,
         Kind::And => true,
         Kind::Or => z.0 == p.0 + 1,
@@ -43,7 +41,7 @@ fn is_default(chart: &Chart, row: &[bool], z: StateId) -> bool
     requires before { row.now ≡ map (λ s. is_in s (default_tree chart.now 0)) (range_with_len 0 z.0) }
     ensures { result ≡ is_in z.0 (default_tree chart.now 0) }
 {
-    match parent_at(chart, z) {
+    match chart.parent(z) {
         Some(p) => is_child_in(chart, row, p, z),
         None => z.0 == 0,
     }

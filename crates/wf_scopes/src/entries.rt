@@ -1,7 +1,6 @@
 //! What transitions enter.
 ghost use Rattle.std.specs.Prelude.{◌≡◌, ◌<◌, ◌==◌, ◌||◌, length, map, Some, IfOk, slice_index_or, false};
 ghost use Rattle.std.specs.List.{range_with_len};
-ghost use Rattle.std.specs.Option.{option_map};
 ghost use Rattle.wf_model.specs.Accepted.{IsAccepted};
 ghost use Rattle.wf_model.specs.Tree.{kind, parent, is_above, scope, target};
 ghost use Rattle.wf_semantics.specs.Configuration.{is_in};
@@ -9,7 +8,7 @@ ghost use Rattle.wf_semantics.specs.Entry.{child_towards, entry_tree};
 ghost use Rattle.wf_semantics.specs.Picks.{picked_by};
 ghost use Rattle.wf_scopes.specs.Tables.{lineages_of, scopes_of, entries_of, entry_row};
 
-use crate::lineages::{is_above, kind_of};
+use crate::lineages::is_above;
 use std::alloc::Global;
 use wf_model::{Chart, Kind, List, NoMemory, StateId, TransId};
 
@@ -67,7 +66,7 @@ fn is_picked(
     requires in_range { target.0 < length chart.now.states }
     ensures { result ≡ picked_by (kind chart.now p.0) (child_towards chart.now target.0 p.0) z.0 }
 {
-    match kind_of(chart, p) {
+    match chart.kind(p) {
         Kind::Basic => false,
         Kind::And => true,
         Kind::Or => is_towards(lineages, chart, target, p, z),
@@ -80,16 +79,6 @@ fn is_from(scope: StateId, row: &[bool], p: StateId) -> bool
     ensures { result ≡ ((p.0 == scope.0) || slice_index_or row.now p.0 false) }
 {
     p.0 == scope.0 || row[p.0 as usize]
-}
-
-/// The parent of a state, if it has one. A number that no state has has none.
-pub fn parent_at(chart: &Chart, z: StateId) -> Option<StateId>
-    ensures { option_map (λ p. p.0) result ≡ parent chart.now z.0 }
-{
-    match chart.states.get(z.0 as usize) {
-        Some(state) => state.parent,
-        None => None,
-    }
 }
 
 // Whether the transition enters state `z`, where the row says what of the states before it.
@@ -110,7 +99,7 @@ fn is_entered(
     requires before { row.now ≡ map (λ s. is_in s (entry_tree chart.now t.0)) (range_with_len 0 z.0) }
     ensures { result ≡ is_in z.0 (entry_tree chart.now t.0) }
 {
-    match parent_at(chart, z) {
+    match chart.parent(z) {
         Some(p) => { is_from(way.scope, row, p) && is_picked(lineages, chart, way.target, p, z) }
         None => false,
     }

@@ -15,6 +15,4 @@ mod scope;
 mod scopes;
 
 pub use defaults::default_bits;
-pub use entries::parent_at;
-pub use lineages::kind_of;
 pub use scopes::Scopes;

@@ -2,11 +2,11 @@
 ghost use Rattle.std.specs.Prelude.{◌≡◌, ◌<◌, ◌≤◌, ◌∷◌, ◌==◌, [], length, IfOk, IfSome, slice_index_or};
 ghost use Rattle.std.specs.List.{list_any};
 ghost use Rattle.wf_model.specs.Accepted.{IsAccepted};
-ghost use Rattle.wf_model.specs.Tree.{list_from, is_above, kind};
+ghost use Rattle.wf_model.specs.Tree.{list_from, is_above};
 ghost use Rattle.wf_scopes.specs.Tables.{lineages_of};
 
 use std::alloc::Global;
-use wf_model::{Chart, Kind, List, NoMemory, StateId};
+use wf_model::{Chart, List, NoMemory, StateId};
 
 // The ancestors of a state with this parent, whose own ancestors are known.
 fn lineage(
@@ -54,14 +54,4 @@ pub fn is_above(lineages: &[List<StateId>], chart: &Chart, a: StateId, b: StateI
     ensures { result ≡ is_above chart.now a.0 b.0 }
 {
     has_id(lineages[b.0 as usize].as_slice(), a)
-}
-
-/// The kind of a state. A number that no state has counts as basic.
-pub fn kind_of(chart: &Chart, s: StateId) -> Kind
-    ensures { result ≡ kind chart.now s.0 }
-{
-    match chart.states.get(s.0 as usize) {
-        Some(state) => state.kind,
-        None => Kind::Basic,
-    }
 }

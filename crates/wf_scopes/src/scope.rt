@@ -4,14 +4,14 @@ ghost use Rattle.wf_model.specs.Accepted.{IsAccepted};
 ghost use Rattle.wf_model.specs.Tree.{kind, is_or, is_above, scope_between};
 ghost use Rattle.wf_scopes.specs.Tables.{lineages_of, scopes_of};
 
-use crate::lineages::{is_above, kind_of};
+use crate::lineages::is_above;
 use std::alloc::Global;
 use wf_model::{Chart, Kind, List, NoMemory, StateId, Transition};
 
 fn is_or(chart: &Chart, s: StateId) -> bool
     ensures { result ≡ is_or (kind chart.now s.0) }
 {
-    match kind_of(chart, s) {
+    match chart.kind(s) {
         Kind::Or => true,
         Kind::Basic | Kind::And => false,
     }

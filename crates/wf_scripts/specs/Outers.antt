@@ -72,17 +72,17 @@ gives_of names line (gives ∷ outputs) = if bytes_eq (text_at line gives) (code
 -- OUTERS
 
 -- an item of an activity is done and gives this, where there are all three
-abbrev pub completed : Option ℕ → Option ℕ → Option (List Output) → Option Outer
-completed None item outputs = None
-completed (Some act) None outputs = None
-completed (Some act) (Some item) None = None
-completed (Some act) (Some item) (Some outputs) = Some (Complete item (record { 0 = act }) outputs)
+abbrev pub completion : Option ℕ → Option ℕ → Option (List Output) → Option Outer
+completion None item outputs = None
+completion (Some act) None outputs = None
+completion (Some act) (Some item) None = None
+completion (Some act) (Some item) (Some outputs) = Some (Complete item (record { 0 = act }) outputs)
 
 -- A N [ gives x = value { , x = value } ]
 unfoldable pub done_of : Finder → List ℕ → List Token → Option Outer
 done_of names line [] = None
 done_of names line (act ∷ []) = None
-done_of names line (act ∷ item ∷ gives) = completed (names.act (text_at line act)) (int_at 4294967295 line item) (gives_of names line gives)
+done_of names line (act ∷ item ∷ gives) = completion (names.act (text_at line act)) (int_at 4294967295 line item) (gives_of names line gives)
 
 -- E
 abbrev pub event_of : Finder → List ℕ → List Token → Option Outer

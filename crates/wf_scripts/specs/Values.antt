@@ -30,19 +30,19 @@ abbrev pub truth : List ℕ → Option Val
 truth word = if bytes_eq word (codes "true") then Some (v.Bool true) else (if bytes_eq word (codes "false") then Some (v.Bool false) else None)
 
 -- true | false | INT | TEXT
-abbrev pub single : TokenKind → List ℕ → Option Val
-single kinds.Word spelling = truth spelling
-single kinds.Int spelling = option_map (λ n. v.Int (pos n)) (number_up_to max_int spelling)
-single kinds.Text spelling = option_map (λ t. v.Text t) (short_text spelling)
-single kinds.Sign spelling = None
+abbrev pub single_value : TokenKind → List ℕ → Option Val
+single_value kinds.Word spelling = truth spelling
+single_value kinds.Int spelling = option_map (λ n. v.Int (pos n)) (number_up_to max_int spelling)
+single_value kinds.Text spelling = option_map (λ t. v.Text t) (short_text spelling)
+single_value kinds.Sign spelling = None
 
 -- - INT
-abbrev pub negated : List ℕ → Option ℕ → Option Val
-negated minus int = if bytes_eq minus (codes "-") then option_map (λ n. v.Int (neg_ℤ (pos n))) int else None
+abbrev pub negative_int : List ℕ → Option ℕ → Option Val
+negative_int minus int = if bytes_eq minus (codes "-") then option_map (λ n. v.Int (neg_ℤ (pos n))) int else None
 
 -- the value that these tokens are, if they are one
 unfoldable pub value_of : List ℕ → List Token → Option Val
 value_of line [] = None
-value_of line (token ∷ []) = single token.kind (text_at line token)
-value_of line (minus ∷ int ∷ []) = negated (text_at line minus) (int_at (max_int + 1) line int)
+value_of line (token ∷ []) = single_value token.kind (text_at line token)
+value_of line (minus ∷ int ∷ []) = negative_int (text_at line minus) (int_at (max_int + 1) line int)
 value_of line (first ∷ second ∷ third ∷ more) = None

@@ -22,5 +22,5 @@ pub use laws::scripts_have_memory;
 pub use lines::{Division, divide, line_count, split_line};
 pub use names::Names;
 pub use outer::outer_of;
-pub use script::{Grammar, ScriptFault, read_script};
+pub use script::{Grammar, ScriptFault, line_at, read_script};
 pub use values::{int_at, text_at};

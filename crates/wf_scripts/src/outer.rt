@@ -121,9 +121,9 @@ fn gives_of(
     }
 }
 
-fn completed(act: Option<u32>, item: Option<u64>, outputs: Option<List<Output>>) -> Option<Outer>
+fn completion(act: Option<u32>, item: Option<u64>, outputs: Option<List<Output>>) -> Option<Outer>
     requires { IfSome item (λ number. number ≤ u32.MAX) }
-    ensures { result ≡ spec.completed act item outputs }
+    ensures { result ≡ spec.completion act item outputs }
 {
     Some(Outer::Complete {
         act: ActId(act?),
@@ -146,7 +146,7 @@ fn done_of(
         [act, item, gives @ ..] => {
             let gives = gives_of(alloc, names, line, gives)?;
             let item = int_at(u32::MAX.into(), line, item);
-            Ok(completed(names.act(text_at(line, act)), item, gives))
+            Ok(completion(names.act(text_at(line, act)), item, gives))
         }
         _ => Ok(None),
     }

@@ -65,9 +65,9 @@ fn tokens_in(alloc: Global, line: &[u8]) -> Result<Option<List<Token>>, NoMemory
     }
 }
 
-// What the line with this number says.
+/// What the line with this number says, by the grammar of the caller. Linear in the line, but for what that grammar does.
 #[tactic(auto, unfolding(crate::specs::Script::line_by))]
-fn line_at<G: Grammar>(
+pub fn line_at<G: Grammar>(
     alloc: Global,
     names: &Names,
     number: u32,

@@ -49,8 +49,8 @@ fn truth(word: &[u8]) -> Option<Val>
 }
 
 // The value that one token is.
-fn single(kind: TokenKind, spelling: &[u8]) -> Option<Val>
-    ensures { result ≡ spec.single kind spelling.now }
+fn single_value(kind: TokenKind, spelling: &[u8]) -> Option<Val>
+    ensures { result ≡ spec.single_value kind spelling.now }
 {
     match kind {
         TokenKind::Word => truth(spelling),
@@ -68,9 +68,9 @@ fn below_zero(number: u64) -> i64
     (0 - number as i128) as i64
 }
 
-fn negated(minus: &[u8], int: Option<u64>) -> Option<Val>
+fn negative_int(minus: &[u8], int: Option<u64>) -> Option<Val>
     requires { IfSome int (λ number. number ≤ 2 ^ 63) }
-    ensures { result ≡ spec.negated minus.now int }
+    ensures { result ≡ spec.negative_int minus.now int }
 {
     if minus == b"-".as_slice() {
         Some(Val::Int(below_zero(int?)))
@@ -86,8 +86,8 @@ pub fn value_of(line: &[u8], tokens: &[Token]) -> Option<Val>
     ensures { result ≡ spec.value_of line.now tokens.now }
 {
     match tokens {
-        [token] => single(token.kind, text_at(line, token)),
-        [minus, int] => negated(text_at(line, minus), int_at(MAX_INT + 1, line, int)),
+        [token] => single_value(token.kind, text_at(line, token)),
+        [minus, int] => negative_int(text_at(line, minus), int_at(MAX_INT + 1, line, int)),
         _ => None,
     }
 }

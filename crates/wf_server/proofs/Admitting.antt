@@ -4,14 +4,17 @@ use Rattle.std.specs.Prelude.{◌&&◌, is_some, is_ok, Result, Ok, Err, IsErrOf
 use Rattle.wf_model.specs.declared.outer.Outer.{Outer}
 use Rattle.wf_disk.specs.Disk.{Told, IsLawful}
 use Rattle.wf_journal.specs.State.{Kept}
+use Rattle.wf_journal.specs.Room.{UsesRoom}
 use Rattle.wf_journal.specs.declared.fault.AppendFault.{AppendFault}
 use Rattle.wf_journal.specs.declared.fault.AppendFault.TheVariants as appends
 use Rattle.wf_codec.specs.Bodies.{IsBodyOf}
+use Rattle.wf_codec.specs.Records.{record_spelling}
 use Rattle.wf_parts.specs.declared.data.PartData.{PartData}
 use Rattle.wf_histories.specs.Histories.{History}
 use Rattle.wf_worlds.specs.Admitting.{lets_in}
 use Rattle.wf_steps.specs.Growing.{place_of, MayAdmit}
 use Rattle.wf_steps.specs.Records.{after}
+use Rattle.wf_steps.specs.Ends.{frame_size}
 use Rattle.wf_server.specs.declared.fault.Admitted.{Admitted}
 use Rattle.wf_server.specs.declared.fault.Admitted.TheVariants.{New, Again}
 use Rattle.wf_server.specs.declared.fault.AdmitFault.{AdmitFault}
@@ -22,8 +25,8 @@ use Rattle.wf_server.specs.Running.{RunsOn}
 use Rattle.wf_server.specs.Answers.{AdmitAnswers, IsNew, IsNewRequest, unadmitted_by}
 use Rattle.wf_server.proofs.Beginnings.{begins_admitted}
 use Rattle.wf_server.proofs.Standing.{Written, Appended, crash_none, crash_append, healthy_ok, placed_ok, placed_err, stands_ok, stands_err}
-use Rattle.wf_server.proofs.Runs.{runs_none, runs_ok, runs_err, reopen_failed}
-use Rattle.wf_server.proofs.Asked.{said_ok, said_err, said_disk, never_said_long}
+use Rattle.wf_server.proofs.Runs.{runs_none, room_none, runs_ok, runs_err, reopen_failed}
+use Rattle.wf_server.proofs.Asked.{said_ok, said_err, said_disk, never_said_long, place_then, room_used}
 
 pub may_admit : {D : Type 0} (server : Server D) (request : ℕ) (outer : Outer) → IsNewRequest server request outer (Ok tt) → MayAdmit server.part server.past (admission request outer)
 may_admit server request outer new = record { fresh = new.fresh; lets = ap is_ok new.lets }
@@ -67,6 +70,14 @@ module _ {D : Type 0} (told : D → Told) (lawful : (d : D) → IsLawful (told d
       let P : Server D → Type 0 = λ s. CrashLeaves (told_by told s) (told a.journal.disk) s.journal.failed s.part s.past (with_admission s.past request outer) in
       subst P view_is (crash_none (told a.journal.disk) a.journal.failed a.part a.past (with_admission a.past request outer) (lawful a.journal.disk) stands)
 
+  pub room_idle : (used_writes used_bytes : ℕ) → UsesRoom (told_by told b) (told_by told b) used_writes used_bytes
+  room_idle used_writes used_bytes = room_none (told_by told b) (lawful b.journal.disk) used_writes used_bytes
+
+  pub room_unasked : (used_writes used_bytes : ℕ) → UsesRoom (told_by told b) (told a.journal.disk) used_writes used_bytes
+  room_unasked used_writes used_bytes =
+      let P : Server D → Type 0 = λ s. UsesRoom (told_by told s) (told a.journal.disk) used_writes used_bytes in
+      subst P view_is (room_none (told a.journal.disk) (lawful a.journal.disk) used_writes used_bytes)
+
   pub runs_unasked : (added no_memory failed : Type 0) → (added → ⊥) → (failed → ⊥) → RunsOn (told_by told b) (told a.journal.disk) added no_memory failed
   runs_unasked added no_memory failed not_added not_failed =
       let P : Server D → Type 0 = λ s. RunsOn (told_by told s) (told a.journal.disk) added no_memory failed in
@@ -105,6 +116,16 @@ module _ {D : Type 0} (told : D → Told) (lawful : (d : D) → IsLawful (told d
 
     pub placed_kept : IsPlaced told a.journal a.part a.past → (fault : AppendFault) → result ≡ Err fault → IsPlaced told j' a.part a.past
     placed_kept placed fault err = placed_err told lawful a.journal j' body result a.part a.past (with_admission a.past request outer) stands written said placed fault err
+
+    pub place_added : result ≡ Ok tt → j'.place ≡ b.journal.place + frame_size (admit_record request outer)
+    place_added done =
+        let P : Server D → Type 0 = λ s. j'.place ≡ s.journal.place + frame_size (admit_record request outer) in
+        subst P view_is (place_then told a.journal j' (admit_record request outer) body is result said done)
+
+    pub room_asked : UsesRoom (told_by told b) (told j'.disk) 2 (length (record_spelling (admit_record request outer)) + 6)
+    room_asked =
+        let P : Server D → Type 0 = λ s. UsesRoom (told_by told s) (told j'.disk) 2 (length (record_spelling (admit_record request outer)) + 6) in
+        subst P view_is (room_used told a.journal j' (admit_record request outer) body is result said)
 
     pub answer_added : (n : ℕ) → result ≡ Ok tt → n ≡ length a.past.admissions + 1 → AdmitAnswers b request outer (Ok (New n))
     answer_added n done number =

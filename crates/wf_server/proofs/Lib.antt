@@ -12,6 +12,7 @@ mod Admitting
 mod Lending
 mod Turning
 mod Stretches
+mod Rooms
 mod Empty
 mod HeadWrites
 mod Starts

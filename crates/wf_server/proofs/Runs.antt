@@ -2,9 +2,10 @@
 use Rattle.std.proofs.Common.{◌≡◌, ℕ, ◌+◌, ◌≤◌, ◌<◌, Bool, true, false, List, length, Option, Some, None, refl, sym, ap, ◌∙◌, subst, inl, inr, cond, arith, rules}
 use Rattle.std.specs.Prelude.{◌⊎◌, ◌==◌, ◌||◌, nat_lt, is_some, Result, Ok, Err, IfSome, IsNone, IfErr, OnOk, IsErrOf}
 use Rattle.wf_model.specs.Limits.{max_body, max_journal}
-use Rattle.wf_disk.specs.Disk.{Told, IsSafeFor, HasCause}
+use Rattle.wf_disk.specs.Disk.{Told, IsLawful, IsSafeFor, HasCause}
 use Rattle.wf_disk.proofs.Runs.{cause_none, cause_since}
 use Rattle.wf_journal.specs.Plan.{MeetsPlan}
+use Rattle.wf_journal.specs.Room.{UsesRoom}
 use Rattle.wf_journal.specs.Faults.{refusal_of}
 use Rattle.wf_journal.specs.State.{Kept}
 use Rattle.wf_journal.specs.declared.fault.AppendFault.{AppendFault}
@@ -23,6 +24,10 @@ runs_none d added no_memory failed not_added not_failed = record {
   two = λ _. omega arith;
   tells = refl;
 }
+
+-- so no room is gone
+pub room_none : (d : Told) → IsLawful d → (used_writes used_bytes : ℕ) → UsesRoom d d used_writes used_bytes
+room_none d lawful used_writes used_bytes = λ writes bytes. lawful.less writes used_writes bytes used_bytes
 
 -- an append was made, and answered so
 module _ {D : Type 0} (told : D → Told) (j j' : Kept D) (body : List ℕ) (result : Result (Unit {0}) AppendFault) (said : Appended told j j' body result) where

@@ -7,6 +7,7 @@ use Rattle.wf_journal.specs.Frames.{header, bodies_of, can_start, IsAsBefore, Is
 use Rattle.wf_journal.specs.Journal.{IsLeft}
 use Rattle.wf_journal.specs.Append.{LeavesBeforeOrAfter, LeavesBefore}
 use Rattle.wf_journal.specs.Plan.{MeetsPlan}
+use Rattle.wf_journal.specs.Room.{UsesRoom}
 use Rattle.wf_journal.specs.Faults.{refusal_of}
 use Rattle.wf_journal.specs.State.{Kept}
 use Rattle.wf_journal.specs.declared.fault.AppendFault.{AppendFault}
@@ -50,6 +51,7 @@ pub record Appended {D : Type 0} (told : D → Told) (j j' : Kept D) (body : Lis
   pub plan : MeetsPlan (told j.disk) (told j'.disk) 4 (IsErrOf result appends.DiskFailed)
   pub safe : IsSafeFor (told j.disk) 4 → IsErrOf result appends.DiskFailed → ⊥
   pub cause : HasCause (told j.disk) (told j'.disk) (IsErrOf result appends.DiskFailed)
+  pub disk_room : UsesRoom (told j.disk) (told j'.disk) 2 (length body + 6)
 
 -- WHAT IMAGES HOLD
 

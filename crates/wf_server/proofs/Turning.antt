@@ -5,6 +5,7 @@ use Rattle.wf_model.specs.Limits.{max_steps}
 use Rattle.wf_model.specs.declared.update.Update.{Update}
 use Rattle.wf_disk.specs.Disk.{Told, IsLawful}
 use Rattle.wf_journal.specs.State.{Kept}
+use Rattle.wf_journal.specs.Room.{UsesRoom}
 use Rattle.wf_journal.specs.Faults.{refusal_of}
 use Rattle.wf_journal.proofs.Answered.{unasked}
 use Rattle.wf_journal.specs.declared.fault.AppendFault.{AppendFault}
@@ -24,12 +25,12 @@ use Rattle.wf_server.specs.declared.fault.TurnFault.TheVariants as turns
 use Rattle.wf_server.specs.Servers.{Server, told_by, inputs_of, held, held_in, turn_record, with_turn}
 use Rattle.wf_server.specs.Images.{Stands, IsPlaced, CrashLeaves}
 use Rattle.wf_server.specs.Running.{RunsOn}
-use Rattle.wf_steps.specs.Ends.{longest_turn}
+use Rattle.wf_steps.specs.Ends.{frame_size, longest_turn}
 use Rattle.wf_server.specs.Answers.{CanTurn, TurnAnswers, untaken_by}
 use Rattle.wf_server.proofs.Beginnings.{begins_turned}
 use Rattle.wf_server.proofs.Standing.{Written, Appended, crash_none, crash_append, healthy_ok, placed_ok, placed_err, stands_ok, stands_err}
 use Rattle.wf_server.proofs.Runs.{runs_none, runs_ok, runs_err, reopen_failed}
-use Rattle.wf_server.proofs.Asked.{said_ok, said_err, said_disk, never_said_long}
+use Rattle.wf_server.proofs.Asked.{said_ok, said_err, said_disk, never_said_long, place_then, room_used}
 
 turn_follows : (part : PartData) (past : History) (came : List (Option Update)) → MayTurn part past (inputs_of came) → after part past (turn_record past came) ≡ Some (with_turn past came)
 unfolding after
@@ -122,6 +123,16 @@ module _ {D : Type 0} (told : D → Told) (lawful : (d : D) → IsLawful (told d
 
   pub placed_kept : IsPlaced told a.journal a.part a.past → (fault : AppendFault) → result ≡ Err fault → IsPlaced told j' a.part a.past
   placed_kept placed fault err = placed_err told lawful a.journal j' body result a.part a.past (with_turn a.past a.came) stands written said placed fault err
+
+  pub place_added : result ≡ Ok tt → j'.place ≡ b.journal.place + frame_size (turn_record b.past b.came)
+  place_added done =
+      let P : Server D → Type 0 = λ s. j'.place ≡ s.journal.place + frame_size (turn_record s.past s.came) in
+      subst P view_is (place_then told a.journal j' (turn_record a.past a.came) body is result said done)
+
+  pub room_asked : UsesRoom (told_by told b) (told j'.disk) 2 (length (record_spelling (turn_record b.past b.came)) + 6)
+  room_asked =
+      let P : Server D → Type 0 = λ s. UsesRoom (told_by told s) (told j'.disk) 2 (length (record_spelling (turn_record s.past s.came)) + 6) in
+      subst P view_is (room_used told a.journal j' (turn_record a.past a.came) body is result said)
 
   pub answer_added : (k : ℕ) → result ≡ Ok tt → k ≡ taken a.past + 1 → TurnAnswers b (Ok (Took k))
   answer_added k done step = let P : Server D → Type 0 = λ s. TurnAnswers s (Ok (Took k)) in subst P view_is (can_inside, said_ok told a.journal j' (turn_record a.past a.came) body is result said done, step)

@@ -2,6 +2,7 @@
 use Rattle.std.specs.Prelude.{Result, Err, ◌≡◌, ◌≢◌, ℕ, ◌+◌, List, [], Option, Some, None, if◌then◌else◌}
 use Rattle.wf_disk.specs.Disk.{Told, Only, LeavesOnly}
 use Rattle.wf_journal.specs.Frames.{bodies_of}
+use Rattle.wf_journal.specs.Room.{UsesRoom}
 use Rattle.wf_journal.specs.Start.{CanBeRead}
 use Rattle.wf_parts.specs.declared.data.PartData.{PartData}
 use Rattle.wf_steps.specs.Records.{history_of}
@@ -11,7 +12,7 @@ use Rattle.wf_histories.specs.Histories.{History}
 use Rattle.wf_server.specs.declared.fault.NodeFault.{NodeFault}
 use Rattle.wf_server.specs.declared.fault.NodeFault.TheVariants as faults
 use Rattle.wf_server.specs.Images.{HoldsOneOf}
-use Rattle.wf_server.specs.Starting.{RunsFor, has_none}
+use Rattle.wf_server.specs.Starting.{RunsFor, has_none, head_length}
 
 -- the image holds what it held, and a crash meanwhile leaves what holds the same as an image that a crash just before could leave
 pub record KeepsHistory (part : PartData) (old new : Told) : Type 0 where
@@ -48,6 +49,11 @@ most_head (Some file) = if has_none (bodies_of file) then 4 else 0
 -- a head takes four strokes, and none is written where there is a frame
 abbrev pub HeadStrokes : Told → Told → Type 0
 HeadStrokes old new = (file : List ℕ) → old.image ≡ Some file → new.clock ≡ old.clock + (if has_none (bodies_of file) then 4 else 0)
+
+-- of the disk's room a head takes no more than two writes, and nothing is gone where there is a frame
+pub record HeadRoom (part : PartData) (old new : Told) : Type 0 where
+  pub most : UsesRoom old new 2 (head_length part + 6)
+  pub begun : (file : List ℕ) → old.image ≡ Some file → bodies_of file ≢ [] → UsesRoom old new 0 0
 
 -- why a journal that was opened isn't read as the unit's
 abbrev pub ReadFails : Result History RecoverFault → NodeFault → Type 0

@@ -10,3 +10,4 @@ pub mod Nodes
 pub mod Judging
 pub mod Repeating
 pub mod Heads
+pub mod Laws

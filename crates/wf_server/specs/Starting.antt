@@ -1,8 +1,11 @@
 -- Of other calls. What a start answers, and what it does to its disk.
-use Rattle.std.specs.Prelude.{◌≡◌, ◌⊎◌, ℕ, ◌+◌, ◌≤◌, true, false, nat_lt, not, Bool, List, [], ◌∷◌, length, Option, Some, None, Result, Ok, Err, if◌then◌else◌, is_some}
+use Rattle.std.specs.Prelude.{◌≡◌, ◌≢◌, ◌⊎◌, ℕ, ◌+◌, ◌≤◌, true, false, nat_lt, not, Bool, List, [], ◌∷◌, length, Option, Some, None, Result, Ok, Err, if◌then◌else◌, is_some}
 use Rattle.wf_disk.specs.Disk.{Told, IsDown, IsSafeFor, HasCause}
 use Rattle.wf_journal.specs.Frames.{bodies_of, is_broken, end_of, can_start}
 use Rattle.wf_journal.specs.Plan.{WentOn, Struck}
+use Rattle.wf_journal.specs.Room.{UsesRoom}
+use Rattle.wf_codec.specs.declared.record.JournalRecord.TheVariants.{Head}
+use Rattle.wf_codec.specs.Records.{record_spelling}
 use Rattle.wf_parts.specs.declared.data.PartData.{PartData}
 use Rattle.wf_journal.specs.declared.fault.StartFault.{StartFault}
 use Rattle.wf_journal.specs.declared.fault.StartFault.TheVariants as starts
@@ -73,6 +76,16 @@ pub record RunsFor (old new : Told) (most : ℕ) (failed : Type 0) : Type 0 wher
 -- a start makes as many as its disk's image asks
 abbrev pub StartRuns : Told → Told → Type 0 → Type 0
 StartRuns old new failed = RunsFor old new (most_on old.image) failed
+
+-- the length of the head record of a part's journal
+abbrev pub head_length : PartData → ℕ
+head_length part = length (record_spelling (Head 1 part.chart part.name))
+
+-- Of the room that its disk had a start takes no more than three writes, of the head's length and seven bytes in all; where there is a
+-- frame no more than one write of one byte.
+pub record StartRoom (part : PartData) (old new : Told) : Type 0 where
+  pub most : UsesRoom old new 3 (head_length part + 7)
+  pub begun : (file : List ℕ) → old.image ≡ Some file → bodies_of file ≢ [] → UsesRoom old new 1 1
 
 -- A START OVER AN IMAGE THAT A SERVER LEFT makes one stroke. At Ok it was done; else it failed, or the disk was down, or memory ran out.
 

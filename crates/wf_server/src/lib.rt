@@ -11,7 +11,9 @@
 #![tactic(auto)]
 
 mod fault;
+mod laws;
 mod node;
 
 pub use fault::{AdmitFault, Admitted, NodeFault, ReceiveFault, Received, Turn, TurnFault};
+pub use laws::letters_stay;
 pub use node::{Node, StartRefused};

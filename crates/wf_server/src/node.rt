@@ -151,7 +151,7 @@ impl<D: Disk> Node<D> {
         ensures last { result.0.now ≡ local_update self.now.part self.now.past (taken self.now.past) }
         ensures next { result.1.now ≡ local_update self.now.part self.now.past (suc (taken self.now.past)) }
     {
-        (self.replica.last(), self.replica.next())
+        (self.replica.last_update(), self.replica.next_update())
     }
 
     /// Whether a disk call of `admit` or `turn` failed since the start, so that both answer `Reopen`. Takes no memory.

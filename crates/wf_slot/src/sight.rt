@@ -36,7 +36,7 @@ pub(crate) fn sight(
 ) -> Result<Sight, NoMemory>
     ensures { IfOk result (λ sight. sight ≡ shown part.now view.now taken admitted) }
 {
-    let inside = view.inside(alloc)?;
+    let inside = view.states_inside(alloc)?;
     Ok(Sight {
         unit: part.unit,
         taken,

@@ -94,7 +94,7 @@ fn turn_follows(replica: &Replica, step: u32, inputs: &[Update], sealed: u32) ->
     let taken = replica.taken();
     step == taken + 1
         && taken < MAX_STEPS
-        && sealed == replica.sealing()
+        && sealed == replica.next_sealed()
         && are_inputs(replica.part().data(), step, inputs)
 }
 

@@ -1,5 +1,5 @@
 //! A unit's history.
-ghost use Rattle.std.specs.Prelude.{◌≡◌, ◌≤◌, ◌++◌, ◌∷◌, [], OnOk};
+ghost use Rattle.std.specs.Prelude.{◌≡◌, ◌+◌, ◌≤◌, ◌++◌, ◌∷◌, [], OnOk};
 ghost use Rattle.wf_worlds.specs.Growing.{admitted};
 ghost use Rattle.wf_worlds.specs.Worlds.{first_history};
 
@@ -72,6 +72,13 @@ impl History {
         }
     }
 
+    /// The unit that it is of. Takes no memory.
+    pub fn unit(&self) -> UnitId
+        ensures { result ≡ self.now.past.unit }
+    {
+        self.unit
+    }
+
     /// The admissions in order. Takes no memory.
     pub fn admissions(&self) -> &[Admission]
         ensures { result.now ≡ self.now.past.admissions }
@@ -99,19 +106,21 @@ impl History {
         Ok(())
     }
 
-    /// One admission more, for which there is room. Takes no memory.
+    /// One admission more, for which there is room. Of the room no more is gone than for one. Takes no memory.
     pub fn admit(&mut self, request: u64, outer: Outer)
         requires { 1 ≤ self.old.admit_room }
         ensures past { self.new.past ≡ admitted self.old.past (record { request = request; outer = outer }) }
+        ensures admit_room { self.old.admit_room ≤ self.new.admit_room + 1 }
         ensures turn_room { self.new.turn_room ≡ self.old.turn_room }
     {
         let _ = self.admissions.push(Admission { request, outer });
     }
 
-    /// One Turn more, for which there is room. Takes no memory.
+    /// One Turn more, for which there is room. Of the room no more is gone than for one. Takes no memory.
     pub fn grow(&mut self, done: TurnDone)
         requires { 1 ≤ self.old.turn_room }
         ensures past { self.new.past ≡ record self.old.past { turns = self.old.past.turns ++ done ∷ [] } }
+        ensures turn_room { self.old.turn_room ≤ self.new.turn_room + 1 }
         ensures admit_room { self.new.admit_room ≡ self.old.admit_room }
     {
         let _ = self.turns.push(done);

@@ -28,4 +28,4 @@ pub use history::{Admission, History, TurnDone};
 pub use laws::{admit_in_range, made_is_sound, turn_in_range, updates_in_range};
 pub use prepared::Prepared;
 pub use recovery::{RecoverRefused, recover};
-pub use replica::{Replica, ReplicaRefused};
+pub use replica::{Replica, ReplicaRefused, no_update};

@@ -64,7 +64,7 @@ fn check_names(alloc: Global, part: &PartData, chart: Name, unit: Name) -> Resul
 }
 
 // The body at this place is no record, or doesn't follow.
-fn bad(at: u64, body: &[u8]) -> RecoverFault
+fn bad_record(at: u64, body: &[u8]) -> RecoverFault
     requires { 1 ≤ length body.now }
     ensures { result ≡ bad_at at body.now }
 {
@@ -81,9 +81,9 @@ fn check_head(alloc: Global, part: &PartData, at: u64, body: &[u8]) -> Result<()
 {
     match decode_record(alloc, body) {
         Ok(JournalRecord::Head { chart, unit, .. }) => check_names(alloc, part, chart, unit),
-        Ok(JournalRecord::Admit { .. }) => Err(bad(at, body)),
-        Ok(JournalRecord::Turn { .. }) => Err(bad(at, body)),
-        Err(RecordFault::NotRecord) => Err(bad(at, body)),
+        Ok(JournalRecord::Admit { .. }) => Err(bad_record(at, body)),
+        Ok(JournalRecord::Turn { .. }) => Err(bad_record(at, body)),
+        Err(RecordFault::NotRecord) => Err(bad_record(at, body)),
         Err(RecordFault::NoMemory) => Err(RecoverFault::NoMemory),
     }
 }
@@ -103,7 +103,7 @@ fn read_record(
 {
     match take_body(alloc, replica, body) {
         Ok(()) => Ok(()),
-        Err(Unfollowed::Misfit) => Err(bad(at, body)),
+        Err(Unfollowed::Misfit) => Err(bad_record(at, body)),
         Err(Unfollowed::NoMemory) => Err(RecoverFault::NoMemory),
     }
 }

@@ -75,8 +75,8 @@ impl Model for Replica {
     ghost invariant = { λ r. IsReplica r.part r.acts r.history.past r.view r.items r.last r.next r.sealed (get nat_eq r.index) };
 }
 
-/// The empty update of step 0.
-fn no_update(alloc: Global, unit: UnitId) -> Update
+/// The empty update of step 0. Takes no memory.
+pub fn no_update(alloc: Global, unit: UnitId) -> Update
     ensures { result ≡ no_update unit }
 {
     Update {
@@ -169,14 +169,14 @@ impl Replica {
     }
 
     /// The own update of the step taken last; that of step 0 is empty.
-    pub fn last(&self) -> &Update
+    pub fn last_update(&self) -> &Update
         ensures { result.now ≡ local_update self.now.part self.now.past (taken self.now.past) }
     {
         &self.last
     }
 
     /// The own update of the next step.
-    pub fn next(&self) -> &Update
+    pub fn next_update(&self) -> &Update
         ensures { result.now ≡ local_update self.now.part self.now.past (suc (taken self.now.past)) }
     {
         &self.next
@@ -191,17 +191,17 @@ impl Replica {
     }
 
     // The admissions that no Turn sealed.
-    fn waiting(&self) -> &[Admission]
+    fn pending_admissions(&self) -> &[Admission]
         ensures { result.now ≡ drop (sum (seals self.now.past)) self.now.past.admissions }
     {
         &self.history.admissions()[self.sealed..]
     }
 
     /// How many admissions the next Turn seals: all that no Turn sealed, at most 64.
-    pub fn sealing(&self) -> u32
+    pub fn next_sealed(&self) -> u32
         ensures { result ≡ sealing self.now.past }
     {
-        self.waiting().len().min(MAX_SEALED) as u32
+        self.pending_admissions().len().min(MAX_SEALED) as u32
     }
 
     /// The place of the admission of this request, counted from 0. In constant time on average.
@@ -261,12 +261,13 @@ impl Replica {
         Ok(body)
     }
 
-    /// Admits what may follow. Takes no memory.
+    /// Admits what may follow. Of the room for admissions no more is gone than for one. Takes no memory.
     pub fn admit(&mut self, request: u64, outer: Outer)
         requires room { 1 ≤ self.old.admit_room }
         requires may { MayAdmit self.old.part self.old.past (record { request = request; outer = outer }) }
         ensures part { self.new.part ≡ self.old.part }
         ensures past { self.new.past ≡ admitted self.old.past (record { request = request; outer = outer }) }
+        ensures admit_room { self.old.admit_room ≤ self.new.admit_room + 1 }
         ensures turn_room { self.new.turn_room ≡ self.old.turn_room }
         ensures item_room { self.new.item_room ≡ self.old.item_room }
     {
@@ -285,12 +286,12 @@ impl Replica {
     {
         let data = self.part.data();
         let step = self.taken() + 1;
-        let sealed = self.sealing();
+        let sealed = self.next_sealed();
         let all = with_own(alloc, &inputs, data.unit.0 as usize, &self.next)?;
         let starts = listed_starts(alloc, self.acts.as_slice(), all.as_slice())?;
         let mut view = self.view.copy(alloc)?;
         view.absorb(alloc, &self.part, all.as_slice())?;
-        let outers = first_outers(alloc, self.waiting(), sealed as usize)?;
+        let outers = first_outers(alloc, self.pending_admissions(), sealed as usize)?;
         let next = own_step(alloc, &self.part, &view, step + 1, outers)?;
         Ok(Prepared {
             done: TurnDone {
@@ -327,12 +328,14 @@ impl Replica {
         ensures room { OnOk result (1 ≤ self.new.turn_room) }
         ensures items { OnOk result (length prepared.now.starts ≤ self.new.item_room) }
         ensures admit_room { self.old.admit_room ≤ self.new.admit_room }
+        ensures turn_room { self.old.turn_room ≤ self.new.turn_room }
+        ensures item_room { self.old.item_room ≤ self.new.item_room }
     {
         self.history.reserve(0, 1)?;
         self.items.reserve(prepared.starts.len() as u32)
     }
 
-    /// Takes a Turn that was worked out. Takes no memory.
+    /// Takes a Turn that was worked out. Of the room no more is gone than for one Turn and its starts. Takes no memory.
     pub fn turn(&mut self, prepared: Prepared)
         requires may { MayTurn self.old.part self.old.past prepared.done.inputs }
         requires prepared { prepared ≡ prepared_of self.old.part self.old.past prepared.done.inputs }
@@ -341,6 +344,8 @@ impl Replica {
         ensures part { self.new.part ≡ self.old.part }
         ensures past { self.new.past ≡ turned self.old.past prepared.done.inputs }
         ensures admit_room { self.new.admit_room ≡ self.old.admit_room }
+        ensures turn_room { self.old.turn_room ≤ self.new.turn_room + 1 }
+        ensures item_room { self.old.item_room ≤ self.new.item_room + length prepared.starts }
     {
         let _part = self.part.data();
         let Prepared {

@@ -55,7 +55,7 @@ fn actions(alloc: Global, cursor: &mut Cursor<'_>) -> Result<List<Action>, TextF
     let first = action(alloc, cursor)?;
     let mut found = List::new(alloc);
     found.push(first)?;
-    for _turn in 0..cursor.left() {
+    for _turn in 0..cursor.tokens_left() {
         if !cursor.eat(Piece::Comma) {
             return Ok(found);
         }

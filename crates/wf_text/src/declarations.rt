@@ -67,7 +67,7 @@ fn outputs(alloc: Global, cursor: &mut Cursor<'_>) -> Result<List<VarId>, TextFa
     let first = cursor.variable()?;
     let mut found = List::new(alloc);
     found.push(first)?;
-    for _turn in 0..cursor.left() {
+    for _turn in 0..cursor.tokens_left() {
         if !cursor.eat(Piece::Comma) {
             return Ok(found);
         }
@@ -137,7 +137,7 @@ fn declaration(alloc: Global, cursor: &mut Cursor<'_>) -> Result<bool, TextFault
 pub fn declarations(alloc: Global, cursor: &mut Cursor<'_>) -> Result<(), TextFault>
     ensures { Reads (spec.declarations cursor.old) result cursor.new }
 {
-    for _turn in 0..cursor.left() {
+    for _turn in 0..cursor.tokens_left() {
         if !declaration(alloc, cursor)? {
             return Ok(());
         }

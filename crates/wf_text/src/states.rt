@@ -88,7 +88,7 @@ fn block(
     ensures { Reads (spec.block depth parent cursor.old) result cursor.new }
 {
     if depth == 0 {
-        return Err(cursor.oversize());
+        return Err(cursor.oversize_fault());
     }
     cursor.take();
     children(alloc, cursor, parent, depth - 1)
@@ -104,7 +104,7 @@ fn children(
 ) -> Result<(), TextFault>
     ensures { Reads (spec.children (spec.state depth (Some parent)) cursor.old) result cursor.new }
 {
-    for _turn in 0..cursor.left() {
+    for _turn in 0..cursor.tokens_left() {
         if cursor.eat(Piece::CloseBrace) {
             return Ok(());
         }

@@ -25,7 +25,7 @@ fn contents(alloc: Global, cursor: &mut Cursor<'_>) -> Result<(Name, List<Transi
     declarations(alloc, cursor)?;
     root(alloc, cursor)?;
     let found = transitions(alloc, cursor)?;
-    if cursor.left() > 0 {
+    if cursor.tokens_left() > 0 {
         return Err(cursor.syntax());
     }
     Ok((name, found))

@@ -57,7 +57,7 @@ pub fn transitions(alloc: Global, cursor: &mut Cursor<'_>) -> Result<List<Transi
     ensures { Reads (spec.transitions cursor.old) result cursor.new }
 {
     let mut found = List::new(alloc);
-    for _turn in 0..cursor.left() {
+    for _turn in 0..cursor.tokens_left() {
         if !cursor.sees(Piece::From) {
             return Ok(found);
         }

@@ -26,14 +26,14 @@ use Rattle.wf_scripts.specs.declared.script.ScriptFault.{ScriptFault}
 use Rattle.wf_scripts.specs.Lines.{lines_of}
 use Rattle.wf_scripts.specs.Names.{names_of}
 use Rattle.wf_scripts.specs.Outers as outers
-use Rattle.wf_scripts.specs.Outers.{given, output_of, between_commas, with_output, each_output, outputs_of, gives_of, completed, done_of, event_of, outer_of}
+use Rattle.wf_scripts.specs.Outers.{given, output_of, between_commas, with_output, each_output, outputs_of, gives_of, completion, done_of, event_of, outer_of}
 use Rattle.wf_scripts.specs.Script.{or_refused, said_in, line_by, with_line, lines_from, script_by}
 use Rattle.wf_scripts.specs.Values.{text_at, int_by, int_at, value_of}
 use Rattle.wf_scripts.proofs.Counted as counted
 use Rattle.wf_machine.specs.declared.line.Line.{Line}
 use Rattle.wf_machine.specs.declared.line.Line.TheVariants as lines
 use Rattle.wf_machine.specs.Fits.{is_known_outer, is_line}
-use Rattle.wf_play.specs.Lines.{outcome_named, positive, count_at, command, unit_line, two_words, sending, crashing, three_words, admitting, arm_of, arming, more_words, said_by}
+use Rattle.wf_play.specs.Lines.{outcome_named, positive_count, count_at, command, unit_line, two_words, send_line, crash_line, three_words, admit_line, arm_of, arm_line, more_words, said_by}
 use Rattle.wf_play.specs.Script.{play_of}
 use Rattle.wf_world.specs.States.{FitFrom, DoFit, first_state}
 
@@ -84,12 +84,12 @@ positive_by : (most n : ℕ) (none : Bool) → (n == 0) ≡ none → nat_le n mo
 positive_by most n true is few = tt
 positive_by most n false is few = and_true (nat_lt 0 n) (nat_le n most) (above_zero n is) few
 
-positive_is : (most : ℕ) (found : Option ℕ) → IsAtMost most found → IsCount most (positive found)
-positive_is most None few = tt
-positive_is most (Some n) few = positive_by most n (n == 0) refl few
+positive_count_is : (most : ℕ) (found : Option ℕ) → IsAtMost most found → IsCount most (positive_count found)
+positive_count_is most None few = tt
+positive_count_is most (Some n) few = positive_by most n (n == 0) refl few
 
 count_is : (most : ℕ) (line : List ℕ) (token : Token) → IsCount most (count_at most line token)
-count_is most line token = positive_is most (int_at most line token) (int_at_most most line token)
+count_is most line token = positive_count_is most (int_at most line token) (int_at_most most line token)
 
 -- OUTERS
 
@@ -138,11 +138,11 @@ gives_fit chart line (gives ∷ tokens) =
 abbrev OuterFits : Chart → Option Outer → Type 0
 OuterFits chart found = IfSome found (λ outer. is_known_outer chart outer ≡ true)
 
-completed_fits : (chart : Chart) (act item : Option ℕ) (outputs : Option (List Output)) → IsBelow (length chart.acts) act → OutputsFit chart outputs → OuterFits chart (completed act item outputs)
-completed_fits chart None item outputs below fits = tt
-completed_fits chart (Some a) None outputs below fits = tt
-completed_fits chart (Some a) (Some n) None below fits = tt
-completed_fits chart (Some a) (Some n) (Some given) below fits = and_true _ _ below fits
+completion_fits : (chart : Chart) (act item : Option ℕ) (outputs : Option (List Output)) → IsBelow (length chart.acts) act → OutputsFit chart outputs → OuterFits chart (completion act item outputs)
+completion_fits chart None item outputs below fits = tt
+completion_fits chart (Some a) None outputs below fits = tt
+completion_fits chart (Some a) (Some n) None below fits = tt
+completion_fits chart (Some a) (Some n) (Some given) below fits = and_true _ _ below fits
 
 act_below : (chart : Chart) (name : List ℕ) → IsBelow (length chart.acts) ((names_of chart).act name)
 act_below chart name = found_below (λ act. bytes_eq name act.name) 0 chart.acts (length chart.acts) (omega arith)
@@ -152,7 +152,7 @@ unfolding done_of
 done_fits chart line [] = tt
 done_fits chart line (act ∷ []) = tt
 done_fits chart line (act ∷ item ∷ gives) =
-    completed_fits chart ((names_of chart).act (text_at line act)) (int_at 4294967295 line item) (gives_of (names_of chart) line gives) (act_below chart (text_at line act)) (gives_fit chart line gives)
+    completion_fits chart ((names_of chart).act (text_at line act)) (int_at 4294967295 line item) (gives_of (names_of chart) line gives) (act_below chart (text_at line act)) (gives_fit chart line gives)
 
 happens_fits : (chart : Chart) (event : Option ℕ) → IsBelow (length chart.events) event → OuterFits chart (option_map (λ e. Happen (record { 0 = e })) event)
 happens_fits chart None below = tt
@@ -214,42 +214,42 @@ sending_by chart u v false is first second =
     and_true (nat_lt u (length chart.units)) (nat_lt v (length chart.units) && not (u == v)) first
     (and_true (nat_lt v (length chart.units)) (not (u == v)) second (ap not is))
 
-sending_fits : (chart : Chart) (from to : Option ℕ) → IsBelow (length chart.units) from → IsBelow (length chart.units) to → LineFits chart (sending from to)
-sending_fits chart None to first second = tt
-sending_fits chart (Some u) None first second = tt
-sending_fits chart (Some u) (Some v) first second = sending_by chart u v (u == v) refl first second
+send_line_fits : (chart : Chart) (from to : Option ℕ) → IsBelow (length chart.units) from → IsBelow (length chart.units) to → LineFits chart (send_line from to)
+send_line_fits chart None to first second = tt
+send_line_fits chart (Some u) None first second = tt
+send_line_fits chart (Some u) (Some v) first second = sending_by chart u v (u == v) refl first second
 
-crashing_fits : (chart : Chart) (unit : Option ℕ) (outcome : Option Outcome) → IsBelow (length chart.units) unit → LineFits chart (crashing unit outcome)
+crash_line_fits : (chart : Chart) (unit : Option ℕ) (outcome : Option Outcome) → IsBelow (length chart.units) unit → LineFits chart (crash_line unit outcome)
 unfolding is_line
-crashing_fits chart None outcome below = tt
-crashing_fits chart (Some u) None below = tt
-crashing_fits chart (Some u) (Some outcome) below = below
+crash_line_fits chart None outcome below = tt
+crash_line_fits chart (Some u) None below = tt
+crash_line_fits chart (Some u) (Some outcome) below = below
 
 three_words_fit : (chart : Chart) (line : List ℕ) (word unit other : Token) → LineFits chart (three_words (names_of chart) line word unit other)
 three_words_fit chart line word unit other =
     let from = (names_of chart).unit (text_at line unit) in
     let to = (names_of chart).unit (text_at line other) in
     let outcome = outcome_named (text_at line other) in
-    either (LineFits chart) (bytes_eq (text_at line word) (codes "send")) (sending from to)
-    (if bytes_eq (text_at line word) (codes "crash") then crashing from outcome else None)
-    (sending_fits chart from to (unit_below chart (text_at line unit)) (unit_below chart (text_at line other)))
-    (either (LineFits chart) (bytes_eq (text_at line word) (codes "crash")) (crashing from outcome) None (crashing_fits chart from outcome (unit_below chart (text_at line unit))) tt)
+    either (LineFits chart) (bytes_eq (text_at line word) (codes "send")) (send_line from to)
+    (if bytes_eq (text_at line word) (codes "crash") then crash_line from outcome else None)
+    (send_line_fits chart from to (unit_below chart (text_at line unit)) (unit_below chart (text_at line other)))
+    (either (LineFits chart) (bytes_eq (text_at line word) (codes "crash")) (crash_line from outcome) None (crash_line_fits chart from outcome (unit_below chart (text_at line unit))) tt)
 
-admitting_fits : (chart : Chart) (unit request : Option ℕ) (outer : Option Outer) → IsBelow (length chart.units) unit → IsAtMost max_int request → OuterFits chart outer
-    → LineFits chart (admitting unit request outer)
+admit_line_fits : (chart : Chart) (unit request : Option ℕ) (outer : Option Outer) → IsBelow (length chart.units) unit → IsAtMost max_int request → OuterFits chart outer
+    → LineFits chart (admit_line unit request outer)
 unfolding is_line
-admitting_fits chart None request outer below few fits = tt
-admitting_fits chart (Some u) None outer below few fits = tt
-admitting_fits chart (Some u) (Some r) None below few fits = tt
-admitting_fits chart (Some u) (Some r) (Some outer) below few fits =
+admit_line_fits chart None request outer below few fits = tt
+admit_line_fits chart (Some u) None outer below few fits = tt
+admit_line_fits chart (Some u) (Some r) None below few fits = tt
+admit_line_fits chart (Some u) (Some r) (Some outer) below few fits =
     and_true (nat_lt u (length chart.units)) (nat_le r max_int && is_known_outer chart outer) below (and_true (nat_le r max_int) (is_known_outer chart outer) few fits)
 
-arming_fits : (chart : Chart) (unit stroke : Option ℕ) (what : Option Arm) → IsBelow (length chart.units) unit → IsCount 1000 stroke → LineFits chart (arming unit stroke what)
+arm_line_fits : (chart : Chart) (unit stroke : Option ℕ) (what : Option Arm) → IsBelow (length chart.units) unit → IsCount 1000 stroke → LineFits chart (arm_line unit stroke what)
 unfolding is_line
-arming_fits chart None stroke what below is = tt
-arming_fits chart (Some u) None what below is = tt
-arming_fits chart (Some u) (Some n) None below is = tt
-arming_fits chart (Some u) (Some n) (Some what) below is = and_true (nat_lt u (length chart.units)) (nat_lt 0 n && nat_le n 1000) below is
+arm_line_fits chart None stroke what below is = tt
+arm_line_fits chart (Some u) None what below is = tt
+arm_line_fits chart (Some u) (Some n) None below is = tt
+arm_line_fits chart (Some u) (Some n) (Some what) below is = and_true (nat_lt u (length chart.units)) (nat_lt 0 n && nat_le n 1000) below is
 
 more_words_fit : (chart : Chart) (line : List ℕ) (word unit number kind : Token) (tokens : List Token) → LineFits chart (more_words (names_of chart) line word unit number kind tokens)
 more_words_fit chart line word unit number kind tokens =
@@ -259,10 +259,10 @@ more_words_fit chart line word unit number kind tokens =
     let outer = outer_of (names_of chart) line (text_at line kind) tokens in
     let stroke = count_at 1000 line number in
     let what = arm_of line (text_at line kind) tokens in
-    either (LineFits chart) (bytes_eq (text_at line word) (codes "admit")) (admitting at request outer)
-    (if bytes_eq (text_at line word) (codes "arm") then arming at stroke what else None)
-    (admitting_fits chart at request outer below (int_at_most max_int line number) (outer_fits chart line (text_at line kind) tokens))
-    (either (LineFits chart) (bytes_eq (text_at line word) (codes "arm")) (arming at stroke what) None (arming_fits chart at stroke what below (count_is 1000 line number)) tt)
+    either (LineFits chart) (bytes_eq (text_at line word) (codes "admit")) (admit_line at request outer)
+    (if bytes_eq (text_at line word) (codes "arm") then arm_line at stroke what else None)
+    (admit_line_fits chart at request outer below (int_at_most max_int line number) (outer_fits chart line (text_at line kind) tokens))
+    (either (LineFits chart) (bytes_eq (text_at line word) (codes "arm")) (arm_line at stroke what) None (arm_line_fits chart at stroke what below (count_is 1000 line number)) tt)
 
 abbrev SaidFits : Chart → Option (Option Line) → Type 0
 SaidFits chart found = IfSome found (LineFits chart)

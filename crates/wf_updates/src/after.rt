@@ -49,7 +49,7 @@ fn differs(one: bool, other: bool) -> bool
 }
 
 // The known states that are in and not flipped, or flipped and not in.
-fn moved(
+fn states_by_flips(
     alloc: Global,
     known: &[KnownState],
     inside: &Bits,
@@ -79,7 +79,7 @@ pub fn states_after(
     let inside = state_set(alloc, before)?;
     let numbers = known_states(alloc, known)?;
     let flipped = flipped_below(alloc, past_numbers(numbers.as_slice()), all)?;
-    moved(alloc, known, &inside, &flipped)
+    states_by_flips(alloc, known, &inside, &flipped)
 }
 
 // For each event below the count, whether an update raises it.
@@ -186,7 +186,7 @@ fn started_below(alloc: Global, count: usize, all: &[Update]) -> Result<Vec<u64>
 }
 
 // How many are open, once these were done and those started.
-fn left_open(before: u32, done: u64, started: u64) -> u32
+fn open_count(before: u32, done: u64, started: u64) -> u32
     requires { before - done + started < 2 ^ 32 }
     ensures { result ≡ before - done + started }
 {
@@ -206,14 +206,14 @@ fn counts_by(
     let mut counts = List::new(alloc);
     for (act, before) in unclosed {
         let at = act.0 as usize;
-        let now = left_open(*before, count_at(done, at), count_at(started, at));
+        let now = open_count(*before, count_at(done, at), count_at(started, at));
         counts.push((*act, now))?;
     }
     Ok(counts)
 }
 
 /// The activities, each with how many of its items are open after the step. In linear time.
-pub fn unclosed_after(
+pub fn open_counts_after(
     alloc: Global,
     unclosed: &[(ActId, u32)],
     next: &[Entry],

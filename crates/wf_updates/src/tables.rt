@@ -1,11 +1,12 @@
 //! Tables by number, made once a call.
 ghost use Rattle.std.specs.Prelude.{◌≡◌, None, map, slice_index, slice_index_or, IfOk};
 ghost use Rattle.std.specs.List.{range_with_len};
-ghost use Rattle.wf_actions.specs.Writes.{over, winner};
+ghost use Rattle.wf_actions.specs.Writes.{winner};
 ghost use Rattle.wf_updates.specs.Tables.{count_of, entry, given_by, last_of};
 
 use crate::numbers::past_numbers;
 use std::alloc::Global;
+use wf_actions::winning_write;
 use wf_model::{List, NoMemory, Output, Val, Write};
 
 /// At each number below the count how many of these numbers are it. In linear time in the count and the numbers.
@@ -60,16 +61,6 @@ pub fn value_at(values: &[Option<Val>], at: usize) -> Option<Val>
     }
 }
 
-// The write that stays where `write` comes after `best`.
-fn over(best: Option<Write>, write: Write) -> Write
-    ensures { Some result ≡ over best write }
-{
-    match best {
-        Some(earlier) if write.trans.0 < earlier.trans.0 => earlier,
-        _ => write,
-    }
-}
-
 /// At each variable's number below the count the write of it that stays. In linear time in the count and the writes.
 pub fn writes_below(
     alloc: Global,
@@ -82,7 +73,7 @@ pub fn writes_below(
     for write in writes {
         let at = write.var.0 as usize;
         if at < best.len() {
-            best[at] = Some(over(best[at], *write));
+            best[at] = Some(winning_write(best[at], *write));
         }
     }
     Ok(best)

@@ -6,7 +6,9 @@ ghost use Rattle.wf_views.specs.Views.{first_view, count_now, sees, is_inside, i
 ghost use Rattle.wf_updates.specs.Tables.{entry};
 ghost use Rattle.wf_views.specs.Absorbing.{absorbed, start_count, starts_in};
 
-use crate::after::{next_after, raised_after, state_set, states_after, unclosed_after, vars_after};
+use crate::after::{
+    next_after, open_counts_after, raised_after, state_set, states_after, vars_after,
+};
 use crate::first::{first_states, first_values, none_open};
 use crate::now::{counts_now, done_set, there_set, values_now};
 use crate::sets::KnownSets;
@@ -71,7 +73,7 @@ impl View {
         let states = states_after(alloc, data.states.as_slice(), self.states.as_slice(), all)?;
         let vars = vars_after(alloc, self.vars.as_slice(), before, all)?;
         let raised = raised_after(alloc, data.events.as_slice(), all)?;
-        let unclosed = unclosed_after(alloc, self.unclosed.as_slice(), before, all)?;
+        let unclosed = open_counts_after(alloc, self.unclosed.as_slice(), before, all)?;
         let next = next_after(alloc, all, &known)?;
         *self = View {
             states,
@@ -123,21 +125,21 @@ impl View {
     }
 
     /// The activities, each with how many of its items are open, before the completions of the next step.
-    pub fn unclosed(&self) -> &[(ActId, u32)]
+    pub fn open_counts(&self) -> &[(ActId, u32)]
         ensures { result.now ≡ self.now.unclosed }
     {
         self.unclosed.as_slice()
     }
 
     /// The entries of the next step, as far as they are known.
-    pub fn next(&self) -> &[Entry]
+    pub fn next_entries(&self) -> &[Entry]
         ensures { result.now ≡ self.now.next }
     {
         self.next.as_slice()
     }
 
     /// A table of the states that are in. In linear time in them and in the greatest of their numbers, and then each is read in constant time.
-    pub fn inside(&self, alloc: Global) -> Result<Bits, NoMemory>
+    pub fn states_inside(&self, alloc: Global) -> Result<Bits, NoMemory>
         ensures { IfOk result (λ bits. bit bits ≡ is_inside self.now) }
     {
         state_set(alloc, self.states.as_slice())
@@ -153,7 +155,7 @@ impl View {
 
     /// A table of the counts of open items, as the next step sees them: once its completions came. In linear time in the view and
     /// in the greatest number of its activities, and then each is read in constant time.
-    pub fn unclosed_now(&self, alloc: Global) -> Result<List<Option<u32>>, NoMemory>
+    pub fn open_counts_now(&self, alloc: Global) -> Result<List<Option<u32>>, NoMemory>
         ensures { IfOk result (λ table. (part : PartData) → entry table ≡ (sees part self.now).seen.count) }
     {
         counts_now(alloc, self.unclosed.as_slice(), self.next.as_slice())
@@ -161,7 +163,7 @@ impl View {
 
     /// A table of the activities of which the next step completes an item. In linear time in its entries and in the greatest number of
     /// these activities, and then each is read in constant time.
-    pub fn done_now(&self, alloc: Global) -> Result<Bits, NoMemory>
+    pub fn done_acts_now(&self, alloc: Global) -> Result<Bits, NoMemory>
         ensures { IfOk result (λ bits. bit bits ≡ is_done_now self.now) }
     {
         done_set(alloc, self.next.as_slice())
@@ -169,7 +171,7 @@ impl View {
 
     /// A table of the events that are there in the next step: raised in the last one, or happening. In linear time in these and in the
     /// greatest of their numbers, and then each is read in constant time.
-    pub fn there_now(&self, alloc: Global) -> Result<Bits, NoMemory>
+    pub fn events_there_now(&self, alloc: Global) -> Result<Bits, NoMemory>
         ensures { IfOk result (λ bits. bit bits ≡ is_there_now self.now) }
     {
         there_set(alloc, self.raised.as_slice(), self.next.as_slice())

@@ -11,7 +11,7 @@ use Rattle.wf_cursor.specs.declared.piece.Piece.{Piece}
 use Rattle.wf_cursor.specs.declared.piece.Piece.TheVariants as pieces
 use Rattle.wf_cursor.specs.Input as input
 use Rattle.wf_cursor.specs.Input.{Input, Outcome, Parser, and_then, ◌>>=◌, ◌>>◌, pure, peek, take, syntax, piece, next, eat, expect, new_name, here, changed, next_unit, next_event, next_var, next_act, with_unit, with_event, with_var, with_act}
-use Rattle.wf_phrase.specs.Literals.{number, negated, characters, literal_by, literal, sort_named, sort_by, sort}
+use Rattle.wf_phrase.specs.Literals.{number, negative_number, characters, literal_by, literal, sort_named, sort_by, sort}
 use Rattle.wf_text.specs.Declarations as reader
 use Rattle.wf_text.specs.Declarations.{outputs_from, outputs, declaration_by, declaration, declarations_from, declarations}
 use Rattle.wf_grammar.specs.Lexemes.{lexeme_of}
@@ -63,13 +63,13 @@ literal_with : {A : Type 0} (i : Input) (p : Piece) (r : Outcome A) → Next p i
 literal_with i p r h fits = recast i (LiteralWith p) Literal Anything Anything r (record { wider = literal_wider p; narrow = λ us vs shaped follows is. (literal_narrow p us vs shaped (is ∙ h), tt) }) fits
 
 literal_by_fits : (i : Input) (p : Piece) → Next p i → Fits i Literal Anything (literal_by (Some p) i)
-unfolding number negated characters input.int input.negated_int
+unfolding number negative_number characters input.int input.negated_int
 literal_by_fits i pieces.True h = literal_with i pieces.True (literal_by (Some pieces.True) i) h (took_one i (next i) pieces.True h (refl, refl))
 literal_by_fits i pieces.False h = literal_with i pieces.False (literal_by (Some pieces.False) i) h (took_one i (next i) pieces.False h (refl, refl))
 literal_by_fits i pieces.Int h = literal_with i pieces.Int (number i) h
     (then_keeps i (One pieces.Int) Anything (input.int i) (λ n. pure (v.Int (pos n))) (int_fits i max_int) (λ x j. (refl, refl)))
-literal_by_fits i pieces.Minus h = literal_with i pieces.Minus (negated i) h
-    (next_then i pieces.Minus (One pieces.Int) Anything (negated i) h
+literal_by_fits i pieces.Minus h = literal_with i pieces.Minus (negative_number i) h
+    (next_then i pieces.Minus (One pieces.Int) Anything (negative_number i) h
     (then_keeps (next i) (One pieces.Int) Anything (input.negated_int (next i)) (λ n. pure (v.Int (neg_ℤ (pos n)))) (int_fits (next i) (max_int + 1)) (λ x j. (refl, refl))))
 literal_by_fits i pieces.Text h = literal_with i pieces.Text (characters i) h
     (then_keeps i (One pieces.Text) Anything (input.text i) (λ t. pure (v.Text t)) (text_fits i) (λ x j. (refl, refl)))

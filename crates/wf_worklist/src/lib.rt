@@ -5,7 +5,7 @@
 //!   and an assignment leaves who has the other items. If memory runs out, the item is with whom it
 //!   was.
 //! - Doesn't say: that the worker does the item.
-//! - A caller: none.
+//! - A caller: `wf_slot` lists the items of a server with `worklist`. A `Board` has none.
 //! - A change begins here if more is to be known of who did an item.
 #![tactic(auto)]
 

@@ -31,7 +31,7 @@ fn mark(done: &mut Bits, outer: &Outer)
 }
 
 // A bit for each number below the count, set if an admission completes the item with this number.
-fn completed(alloc: Global, count: usize, admissions: &[Admission]) -> Result<Bits, NoMemory>
+fn completion_bits(alloc: Global, count: usize, admissions: &[Admission]) -> Result<Bits, NoMemory>
     ensures { IfOk result (λ done. (number : ℕ) → number < count → bit done number ≡ list_any (completes number) (outers admissions.now)) }
 {
     let mut done = Bits::none(alloc, count)?;
@@ -50,7 +50,7 @@ pub fn worklist(alloc: Global, items: &Items, history: &History) -> Result<List<
     ensures { IfOk result (λ list. list ≡ worklist_of items.now history.now.past) }
 {
     let started = items.started();
-    let done = completed(alloc, started.len() + 1, history.admissions())?;
+    let done = completion_bits(alloc, started.len() + 1, history.admissions())?;
     let mut list = List::new(alloc);
     for (at, start) in started.iter().enumerate() {
         let number = at as u32 + 1;

@@ -60,7 +60,7 @@ impl Mail {
     }
 
     /// All messages, lent, in the order of their numbers. Takes no memory.
-    pub fn all(&self) -> &List<Sent>
+    pub fn messages(&self) -> &List<Sent>
         ensures { result.now ≡ self.now }
     {
         &self.messages

@@ -1,5 +1,5 @@
 //! What the disks hold that a world leaves.
-use crate::plays::{played, two};
+use crate::plays::{chart_two, world_after_play};
 use std::test::Fail;
 use wf_disk::MemDisk;
 use wf_model::UnitId;
@@ -10,7 +10,7 @@ use wf_server::{Node, StartRefused};
 
 // The part of a unit.
 fn part_in(rt: &HostRuntime, unit: u32) -> Result<Part, Fail> {
-    let checked = two(rt)?;
+    let checked = chart_two(rt)?;
     if unit as usize >= checked.chart().units.len() {
         Err("no unit")?;
     }
@@ -28,7 +28,7 @@ fn counts_on(rt: &HostRuntime, unit: u32, disk: MemDisk) -> Result<(u64, u32), F
 
 #[test]
 fn disks_hold_the_histories(rt: HostRuntime) -> Result<(), Fail> {
-    let disks = played(&rt)?.close()?;
+    let disks = world_after_play(&rt)?.close()?;
     let wanted = [(1, 3), (0, 2)];
     assert!(rt; disks.len() == 2);
     let mut unit = 0;

@@ -1,5 +1,5 @@
 //! What a world lends.
-use crate::plays::played;
+use crate::plays::world_after_play;
 use std::test::Fail;
 use wf_model::UnitId;
 
@@ -15,7 +15,7 @@ const TOLD: [u8; 21] = [
 
 #[test]
 fn messages_are_lent(rt: HostRuntime) -> Result<(), Fail> {
-    let world = played(&rt)?;
+    let world = world_after_play(&rt)?;
     let messages = world.messages();
     assert!(rt; messages.len() == SENT.len());
     for (message, (sender, receiver, step)) in messages.iter().zip(&SENT) {
@@ -28,7 +28,7 @@ fn messages_are_lent(rt: HostRuntime) -> Result<(), Fail> {
 
 #[test]
 fn bytes_are_lent(rt: HostRuntime) -> Result<(), Fail> {
-    let world = played(&rt)?;
+    let world = world_after_play(&rt)?;
     let told = world.messages().get(2).ok_or("no third message")?;
     assert!(rt; told.bytes.as_slice() == TOLD.as_slice());
     Ok(())
@@ -36,7 +36,7 @@ fn bytes_are_lent(rt: HostRuntime) -> Result<(), Fail> {
 
 #[test]
 fn histories_are_lent(rt: HostRuntime) -> Result<(), Fail> {
-    let world = played(&rt)?;
+    let world = world_after_play(&rt)?;
     for (unit, admissions, turns) in [(0, 1, 3), (1, 0, 2)] {
         let history = world.history(UnitId(unit)).ok_or("no unit")?;
         assert!(rt; history.admissions().len() == admissions);

@@ -37,7 +37,7 @@ turn a
 ";
 
 /// The chart.
-pub fn two(rt: &HostRuntime) -> Result<Checked, Fail> {
+pub fn chart_two(rt: &HostRuntime) -> Result<Checked, Fail> {
     let chart = read_chart(rt.alloc(), TWO.as_bytes())
         .ok()
         .ok_or("no chart")?;
@@ -45,7 +45,11 @@ pub fn two(rt: &HostRuntime) -> Result<Checked, Fail> {
 }
 
 // The world of a chart after these lines, and after its end.
-fn after(rt: &HostRuntime, checked: Checked, lines: &List<(u32, Line)>) -> Result<World, Fail>
+fn world_after_lines(
+    rt: &HostRuntime,
+    checked: Checked,
+    lines: &List<(u32, Line)>,
+) -> Result<World, Fail>
     requires { DoFit (first_state checked) (map (λ x. x.1) lines.now) }
     ensures { IfOk result (λ world. DoWork world.slots) }
 {
@@ -63,18 +67,18 @@ fn world_after(rt: &HostRuntime, checked: Checked, script: &[u8]) -> Result<Worl
     ensures { IfOk result (λ world. DoWork world.slots) }
 {
     match read_play(rt.alloc(), &checked, script) {
-        Ok(lines) => after(rt, checked, &lines),
+        Ok(lines) => world_after_lines(rt, checked, &lines),
         Err(_) => Err(Fail::from("no play")),
     }
 }
 
 /// The world after the play, and after its end.
-pub fn played(rt: &HostRuntime) -> Result<World, Fail>
+pub fn world_after_play(rt: &HostRuntime) -> Result<World, Fail>
     ensures { IfOk result (λ world. DoWork world.slots) }
 {
     let script = PLAY.as_bytes();
     if script.len() > 4000 || line_count(script) > 100 {
         Err("the script is too long")?;
     }
-    world_after(rt, two(rt)?, script)
+    world_after(rt, chart_two(rt)?, script)
 }

@@ -1,8 +1,10 @@
 //! How a node admits.
 ghost use Rattle.std.specs.Prelude.{◌≡◌, ◌≢◌, ◌+◌, ◌<◌, ℕ, None, false, true, Ok, Err, length, IfOk, IfErr, IfSome, IsOk, IsErr, IsErrOf, MatchResult};
-ghost use Rattle.wf_steps.specs.Ends.{IsShort};
+ghost use Rattle.wf_codec.specs.Records.{record_spelling};
+ghost use Rattle.wf_journal.specs.Room.{UsesRoom};
+ghost use Rattle.wf_steps.specs.Ends.{IsShort, frame_size};
 ghost use Rattle.wf_steps.specs.Growing.{MayAdmit};
-ghost use Rattle.wf_server.specs.Servers.{admission, told_by, with_admission};
+ghost use Rattle.wf_server.specs.Servers.{admission, admit_record, told_by, with_admission};
 ghost use Rattle.wf_server.specs.Images.{CrashLeaves};
 ghost use Rattle.wf_server.specs.Running.{RunsOn};
 ghost use Rattle.wf_server.specs.Answers.{outer_at, IsNew, IsNewRequest, IsAsked, AdmitAnswers};
@@ -16,7 +18,7 @@ use wf_model::{Duplicate, Outer, Same};
 use wf_steps::Admission;
 
 // The number of a request that was admitted before, or that it was with another outer.
-fn repeated(
+fn earlier_admission(
     alloc: Global,
     admissions: &[Admission],
     at: usize,
@@ -43,6 +45,7 @@ impl<D: Disk> Node<D> {
         ensures again { IfOk result (λ known. IfSome known (λ number. AdmitAnswers self.now request outer.now (Ok (Admitted.Again number)))) }
         ensures fresh { IfOk result (λ known. known ≡ None → IsNewRequest self.now request outer.now (Ok tt)) }
         ensures refused { IfErr result (λ fault. AdmitAnswers self.now request outer.now (Err fault)) }
+        ensures reopen { self.now.journal.failed ≡ true → result ≡ Err AdmitFault.Reopen }
         ensures no_disk { IsErrOf result AdmitFault.DiskFailed → ⊥ }
         ensures unasked { IfErr result (λ fault. IsAsked (Err fault) → ⊥) }
     {
@@ -51,7 +54,7 @@ impl<D: Disk> Node<D> {
         }
         if let Some(at) = self.replica.find(request) {
             let admissions = self.replica.history().admissions();
-            return Ok(Some(repeated(self.alloc, admissions, at, outer)?));
+            return Ok(Some(earlier_admission(self.alloc, admissions, at, outer)?));
         }
         self.replica.lets_in(outer)?;
         Ok(None)
@@ -66,11 +69,14 @@ impl<D: Disk> Node<D> {
         ensures short { IsAsked result → IsShort outer.now }
         ensures kept { IsErr result → self.new ≡ record self.old { journal = self.new.journal } }
         ensures refused { IsErrOf result AdmitFault.JournalFull → self.new ≡ self.old }
+        ensures place { IsNew result → self.new.journal.place ≡ self.old.journal.place + frame_size (admit_record request outer.now) }
+        ensures place_kept { IsErr result → self.new.journal.place ≡ self.old.journal.place }
         ensures healthy { IsOk result → self.new.journal.failed ≡ false }
         ensures no_memory { IsErrOf result AdmitFault.NoMemory → self.new.journal.failed ≡ false }
         ensures failed { IsErrOf result AdmitFault.DiskFailed → self.new.journal.failed ≡ true }
         ensures crash { CrashLeaves (told_by D.told self.old) (told_by D.told self.new) self.old.journal.failed self.old.part self.old.past (with_admission self.old.past request outer.now) }
         ensures disk { RunsOn (told_by D.told self.old) (told_by D.told self.new) (IsNew result) (IsErrOf result AdmitFault.NoMemory) (IsErrOf result AdmitFault.DiskFailed) }
+        ensures disk_room { UsesRoom (told_by D.told self.old) (told_by D.told self.new) 2 (length (record_spelling (admit_record request outer.now)) + 6) }
     {
         let number = self.replica.history().admissions().len() as u64 + 1;
         let body = self.replica.admit_body(self.alloc, request, outer)?;
@@ -87,7 +93,9 @@ impl<D: Disk> Node<D> {
     /// `WrongUnit`, `NoItem`, `AlreadyDone` and `WrongOutput` exactly by the rule, over the items of the steps taken and all
     /// admissions so far; `JournalFull` exactly if the journal says so; `NoMemory`; `DiskFailed`, exactly at a stroke that the disk is
     /// to fail. Else `New`, with one more than the admissions before. After all but `New`, `DiskFailed` and `NoMemory` the node is as
-    /// before, and after these two it is but for its journal. If the journal was asked, the outer has at most 552 bytes.
+    /// before, and after these two it is but for its journal. The journal's closed gate goes behind the record at `New`, and else it stays.
+    /// Of the disk's room no more is gone than two writes, of the record's length and six bytes in all. If the journal was asked, the outer
+    /// has at most 552 bytes.
     /// In constant time on average in the history, in linear time in the part and the outer.
     pub fn admit(&mut self, request: u64, outer: &Outer) -> Result<Admitted, AdmitFault>
         ensures answer { AdmitAnswers self.old request outer.now result }
@@ -99,10 +107,16 @@ impl<D: Disk> Node<D> {
         ensures healthy { IsOk result → self.new.journal.failed ≡ false }
         ensures no_memory { IsErrOf result AdmitFault.NoMemory → self.new.journal.failed ≡ self.old.journal.failed }
         ensures failed { IsErrOf result AdmitFault.DiskFailed → self.new.journal.failed ≡ true }
+        ensures reopen { self.old.journal.failed ≡ true → (result ≡ Err AdmitFault.Reopen) × (self.new ≡ self.old) }
+
+        // Where the journal's closed gate stands, also over a disk that doesn't tell its image.
+        ensures place { IsNew result → self.new.journal.place ≡ self.old.journal.place + frame_size (admit_record request outer.now) }
+        ensures place_kept { IsErr result → self.new.journal.place ≡ self.old.journal.place }
 
         // What a crash leaves, at any moment of the call, and what the call does to its disk.
         ensures crash { CrashLeaves (told_by D.told self.old) (told_by D.told self.new) self.old.journal.failed self.old.part self.old.past (with_admission self.old.past request outer.now) }
         ensures disk { RunsOn (told_by D.told self.old) (told_by D.told self.new) (IsNew result) (IsErrOf result AdmitFault.NoMemory) (IsErrOf result AdmitFault.DiskFailed) }
+        ensures disk_room { UsesRoom (told_by D.told self.old) (told_by D.told self.new) 2 (length (record_spelling (admit_record request outer.now)) + 6) }
     {
         let _stands = &self.journal;
         if let Some(number) = self.consider(request, outer)? {

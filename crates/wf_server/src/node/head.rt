@@ -1,12 +1,14 @@
 //! How a start writes the head of a journal without frames, and reads the unit.
 ghost use Rattle.std.specs.Prelude.{◌≡◌, ◌↔◌, ◌+◌, ◌≤◌, ℕ, List, Some, Ok, Err, true, false, IfOk, IfErr, OnOk, IsErrOf};
 ghost use Rattle.wf_disk.specs.Disk.{HasCause, IsDown, IsSame};
+ghost use Rattle.wf_journal.specs.Room.{UsesRoom};
 ghost use Rattle.wf_journal.specs.Start.{CanBeRead};
 ghost use Rattle.wf_journal.specs.Frames.{end_of};
 ghost use Rattle.wf_steps.specs.Records.{history_of};
 ghost use Rattle.wf_steps.specs.Ends.{end_of_history};
 ghost use Rattle.wf_steps.specs.Recovering.{IsFault};
-ghost use Rattle.wf_server.specs.Heads.{Stretch, HeadStrokes, most_head, IsStill, IsEmpty, IsBegun, IsOpen};
+ghost use Rattle.wf_server.specs.Heads.{Stretch, HeadStrokes, HeadRoom, most_head, IsStill, IsEmpty, IsBegun, IsOpen};
+ghost use Rattle.wf_server.specs.Starting.{head_length};
 
 use std::alloc::Global;
 use wf_codec::encode_head;
@@ -68,6 +70,7 @@ fn write_head<D: Disk>(
     ensures begun { OnOk result (IsOpen (D.told journal.new.disk)) }
     ensures healthy { OnOk result (journal.new.failed ≡ false) }
     ensures four { OnOk result ((D.told journal.new.disk).clock ≡ (D.told journal.old.disk).clock + 4) }
+    ensures room { UsesRoom (D.told journal.old.disk) (D.told journal.new.disk) 2 (head_length part.now + 6) }
 {
     let data = part.data();
     let Ok(body) = encode_head(alloc, &data.chart, &data.name) else {
@@ -88,6 +91,7 @@ fn begin<D: Disk>(alloc: Global, part: &Part, journal: &mut Journal<D>) -> Resul
     ensures begun { OnOk result (IsOpen (D.told journal.new.disk)) }
     ensures healthy { OnOk result (journal.new.failed ≡ false) }
     ensures strokes { OnOk result (HeadStrokes (D.told journal.old.disk) (D.told journal.new.disk)) }
+    ensures room { HeadRoom part.now (D.told journal.old.disk) (D.told journal.new.disk) }
 {
     match has_frame(alloc, journal) {
         Ok(true) => Ok(()),
@@ -118,6 +122,7 @@ pub fn read_unit<D: Disk>(
     ensures end { IfOk result (λ r. (file : List ℕ) → (D.told journal.new.disk).image ≡ Some file → end_of file ≡ end_of_history r.part r.past) }
     ensures healthy { IfOk result (λ _. journal.new.failed ≡ false) }
     ensures strokes { IfOk result (λ _. HeadStrokes (D.told journal.old.disk) (D.told journal.new.disk)) }
+    ensures room { HeadRoom part (D.told journal.old.disk) (D.told journal.new.disk) }
 {
     match begin(alloc, &part, journal) {
         Ok(()) => recover(alloc, part, journal),

@@ -44,7 +44,7 @@ fn is_peer(part: &PartData, unit: UnitId) -> bool
 }
 
 /// The peers whose update didn't come. Takes no memory.
-pub fn missing(part: &PartData, came: &[Option<Update>]) -> UnitSet
+pub fn missing_peers(part: &PartData, came: &[Option<Update>]) -> UnitSet
     requires size { length came.now ≡ part.now.units }
     requires few { part.now.units ≤ max_units }
     ensures { AreMissing part.now came.now result.0 }
@@ -119,7 +119,7 @@ enum Refusal {
 
 impl<D: Disk> Node<D> {
     // What becomes of an update, by what is held.
-    fn compared(&self, update: &Update) -> Option<Result<Received, Refusal>>
+    fn comparison(&self, update: &Update) -> Option<Result<Received, Refusal>>
         ensures held { IfSome result (λ answer. (other : UpdateValue) × (held self.now update.now.from.0 update.now.step ≡ Some other) × SaysOf other update.now answer) }
         ensures none { result ≡ None → held self.now update.now.from.0 update.now.step ≡ None }
     {
@@ -148,7 +148,7 @@ impl<D: Disk> Node<D> {
         if taken + 2 < update.step {
             return Err(Refusal::TooFar);
         }
-        if let Some(answer) = self.compared(update) {
+        if let Some(answer) = self.comparison(update) {
             return answer;
         }
         if !is_fit(part, update) {

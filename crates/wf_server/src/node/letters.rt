@@ -39,7 +39,7 @@ pub fn value_of(vars: &[Output], var: VarId) -> Option<Val>
 
 impl<D: Disk> Node<D> {
     // The own update of a step that is kept.
-    fn made(&self, step: u32) -> &Update
+    fn own_update(&self, step: u32) -> &Update
         requires first { 1 ≤ step }
         requires kept { (step ≡ taken self.now.past) ⊎ (step ≡ taken self.now.past + 1) }
         ensures update { result.now ≡ local_update self.now.part self.now.past step }
@@ -48,9 +48,9 @@ impl<D: Disk> Node<D> {
         let _made = self.replica.history();
         let _part = self.replica.part().data();
         if step == self.replica.taken() {
-            self.replica.last()
+            self.replica.last_update()
         } else {
-            self.replica.next()
+            self.replica.next_update()
         }
     }
 
@@ -62,7 +62,7 @@ impl<D: Disk> Node<D> {
         ensures update { IfOk result (λ update. update ≡ sent_to self.now.part self.now.past peer.0 step) }
         ensures range { IfOk result IsInRange }
     {
-        relevant(self.alloc, self.made(step), self.replica.part(), peer)
+        relevant(self.alloc, self.own_update(step), self.replica.part(), peer)
     }
 
     /// The bytes for a peer of the own update of a step that is taken or the next one. By each image that a crash now may leave they

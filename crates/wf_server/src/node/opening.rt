@@ -1,14 +1,15 @@
 //! How a node is started.
-ghost use Rattle.std.specs.Prelude.{◌≡◌, ◌+◌, ℕ, List, Some, false, IfOk, IfErr};
+ghost use Rattle.std.specs.Prelude.{◌≡◌, ◌+◌, ℕ, List, Some, false, true, IfOk, IfErr};
 ghost use Rattle.wf_disk.specs.Disk.{LeavesOnly};
+ghost use Rattle.wf_journal.specs.Frames.{can_start};
 ghost use Rattle.wf_journal.specs.Start.{CanBeRead};
 ghost use Rattle.wf_histories.specs.Histories.{History};
 ghost use Rattle.wf_steps.specs.Growing.{IsMade};
 ghost use Rattle.wf_steps.specs.Records.{history_of};
 ghost use Rattle.std.specs.Prelude.{Ok};
 ghost use Rattle.wf_server.specs.Images.{Holds, HoldsOneOf};
-ghost use Rattle.wf_server.specs.Heads.{Stretch, HeadStrokes, most_head, IsStill, ReadFails};
-ghost use Rattle.wf_server.specs.Starting.{StartFails, IsStarted, StartRuns, strokes_on, Reopens, StaysShut};
+ghost use Rattle.wf_server.specs.Heads.{Stretch, HeadStrokes, HeadRoom, most_head, IsStill, ReadFails};
+ghost use Rattle.wf_server.specs.Starting.{StartFails, IsStarted, StartRuns, StartRoom, strokes_on, Reopens, StaysShut};
 
 use crate::NodeFault;
 use crate::node::head::read_unit;
@@ -39,6 +40,8 @@ impl<D: Disk> Node<D> {
         ensures stretch { IfOk result (λ node. Stretch part (D.told journal.disk) (D.told node.journal.disk) (most_head (D.told journal.disk).image) ⊥) }
         ensures stretch_refused { IfErr result (λ refused. Stretch part (D.told journal.disk) (D.told refused.disk) (most_head (D.told journal.disk).image) (refused.fault ≡ NodeFault.DiskFailed)) }
         ensures strokes { IfOk result (λ node. HeadStrokes (D.told journal.disk) (D.told node.journal.disk)) }
+        ensures room { IfOk result (λ node. HeadRoom part (D.told journal.disk) (D.told node.journal.disk)) }
+        ensures room_refused { IfErr result (λ refused. HeadRoom part (D.told journal.disk) (D.told refused.disk)) }
     {
         let mut journal = journal;
         let Ok((came, early)) = empty_inboxes(alloc, part.data().units) else {
@@ -73,10 +76,12 @@ impl<D: Disk> Node<D> {
     /// is what the journal's start answers, and only then what the recovery answers, so that `BadFrame` comes before `Foreign` and
     /// `BadRecord`; each comes exactly if the image is so. Part and disk are given back at a refusal, and the disk's history is as
     /// before. A crash meanwhile leaves a history that a crash just before could leave. Over an image that a node left it makes one stroke,
-    /// and answers Ok with that history, unless the disk fails or memory runs out. In linear time in the journal, with one frame in
-    /// memory at a time beside the history.
+    /// and answers Ok with that history, unless the disk fails or memory runs out. Of the disk's room no more is gone than three writes, of
+    /// the head's length and seven bytes in all, and where there is a frame no more than one write of one byte. In linear time in the
+    /// journal, with one frame in memory at a time beside the history.
     pub fn start(alloc: Global, part: Part, disk: D) -> Result<Node<D>, StartRefused<D>>
         ensures history { IfOk result (λ node. (file : List ℕ) → (D.told disk).image ≡ Some file → history_of part file ≡ Ok node.past) }
+        ensures whole { IfOk result (λ _. (file : List ℕ) → (D.told disk).image ≡ Some file → can_start file ≡ true) }
         ensures started { IfOk result (IsStarted part) }
         ensures made { IfOk result (λ node. IsMade part node.past) }
         ensures refused { IfErr result (λ refused. (file : List ℕ) → (D.told disk).image ≡ Some file → StartFails part file refused.fault) }
@@ -99,6 +104,8 @@ impl<D: Disk> Node<D> {
             (D.told node.journal.disk).clock ≡ (D.told disk).clock + strokes_on file) }
         ensures runs { IfOk result (λ node. StartRuns (D.told disk) (D.told node.journal.disk) ⊥) }
         ensures runs_refused { IfErr result (λ refused. StartRuns (D.told disk) (D.told refused.disk) (refused.fault ≡ NodeFault.DiskFailed)) }
+        ensures disk_room { IfOk result (λ node. StartRoom part (D.told disk) (D.told node.journal.disk)) }
+        ensures disk_room_refused { IfErr result (λ refused. StartRoom part (D.told disk) (D.told refused.disk)) }
     {
         match Journal::start(alloc, disk) {
             Ok(journal) => Node::of_journal(alloc, part, journal),

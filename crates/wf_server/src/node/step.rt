@@ -4,8 +4,9 @@ ghost use Rattle.std.specs.Option.{ForSome};
 ghost use Rattle.wf_model.specs.Limits.{max_steps};
 ghost use Rattle.wf_codec.specs.Bodies.{IsBodyOf};
 ghost use Rattle.wf_codec.specs.Records.{record_spelling};
+ghost use Rattle.wf_journal.specs.Room.{UsesRoom};
 ghost use Rattle.wf_histories.specs.Histories.{taken};
-ghost use Rattle.wf_steps.specs.Ends.{longest_turn};
+ghost use Rattle.wf_steps.specs.Ends.{frame_size, longest_turn};
 ghost use Rattle.wf_steps.specs.Growing.{MayTurn};
 ghost use Rattle.wf_steps.specs.Replicas.{prepared_of};
 ghost use Rattle.wf_worlds.specs.Growing.{turned};
@@ -16,7 +17,7 @@ ghost use Rattle.wf_server.specs.Running.{RunsOn};
 ghost use Rattle.wf_server.specs.Answers.{CanTurn, TurnAnswers};
 ghost use Rattle.wf_server.specs.Nodes.{IsReady};
 
-use crate::node::inbox::{copies_of, go_on, missing};
+use crate::node::inbox::{copies_of, go_on, missing_peers};
 use crate::node::{Node, Ready};
 use crate::{Turn, TurnFault};
 use std::alloc::Global;
@@ -77,13 +78,14 @@ impl<D: Disk> Node<D> {
     fn may_turn(&self) -> Result<(), TurnFault>
         ensures can { OnOk result (CanTurn self.now) }
         ensures refused { IfErr result (λ fault. TurnAnswers self.now (Err fault)) }
+        ensures reopen { self.now.journal.failed ≡ true → result ≡ Err TurnFault.Reopen }
         ensures no_memory { IsErrOf result TurnFault.NoMemory → ⊥ }
         ensures no_disk { IsErrOf result TurnFault.DiskFailed → ⊥ }
     {
         if self.journal.is_failed() {
             return Err(TurnFault::Reopen);
         }
-        let absent = missing(self.replica.part().data(), self.came.as_slice());
+        let absent = missing_peers(self.replica.part().data(), self.came.as_slice());
         if absent.0 != 0 {
             return Err(TurnFault::Waiting(absent));
         }
@@ -123,12 +125,15 @@ impl<D: Disk> Node<D> {
         ensures none { OnOk result ((v : ℕ) → held_in self.new.early v ≡ None) }
         ensures kept { IsErr result → self.new ≡ record self.old { journal = self.new.journal } }
         ensures refused { IsErr result → (IsErrOf result TurnFault.NoMemory → ⊥) → (IsErrOf result TurnFault.DiskFailed → ⊥) → self.new ≡ self.old }
+        ensures place { OnOk result (self.new.journal.place ≡ self.old.journal.place + frame_size (turn_record self.old.past self.old.came)) }
+        ensures place_kept { IsErr result → self.new.journal.place ≡ self.old.journal.place }
         ensures healthy { IsOk result → self.new.journal.failed ≡ false }
         ensures no_memory { IsErrOf result TurnFault.NoMemory → self.new.journal.failed ≡ false }
         ensures failed { IsErrOf result TurnFault.DiskFailed → self.new.journal.failed ≡ true }
         ensures enough { (told_by D.told self.old).has_room 2 (length (record_spelling (turn_record self.old.past self.old.came)) + 6) → IsErrOf result TurnFault.NoMemory → ⊥ }
         ensures crash { CrashLeaves (told_by D.told self.old) (told_by D.told self.new) self.old.journal.failed self.old.part self.old.past (with_turn self.old.past self.old.came) }
         ensures disk { RunsOn (told_by D.told self.old) (told_by D.told self.new) (IsOk result) (IsErrOf result TurnFault.NoMemory) (IsErrOf result TurnFault.DiskFailed) }
+        ensures disk_room { UsesRoom (told_by D.told self.old) (told_by D.told self.new) 2 (length (record_spelling (turn_record self.old.past self.old.came)) + 6) }
     {
         let Some(ready) = &self.ready else {
             return Err(TurnFault::NoMemory);
@@ -143,7 +148,9 @@ impl<D: Disk> Node<D> {
     /// failed since the start; `Waiting` with exactly the peers whose update of the next step isn't held, if there are any; `StepLimit`
     /// exactly at 20,000 steps; `JournalFull` exactly if the journal says so; `NoMemory`; `DiskFailed`, exactly at a stroke that the
     /// disk is to fail. Else `Took`, with the step. After all but `Took`, `DiskFailed` and `NoMemory` the node is as before, but that the
-    /// Turn may be worked out, and after these two it is but for its journal. In linear time in the updates, the part and the view.
+    /// Turn may be worked out, and after these two it is but for its journal; after `Reopen` it is just as before. The journal's closed gate
+    /// goes behind the record at `Took`, and else it stays. Of the disk's room no more is gone than two writes, of the record's length and
+    /// six bytes in all. In linear time in the updates, the part and the view.
     pub fn turn(&mut self) -> Result<Turn, TurnFault>
         ensures answer { TurnAnswers self.old result }
         ensures inbox { IsInbox self.old.part (taken self.old.past + 1) self.old.came }
@@ -155,6 +162,11 @@ impl<D: Disk> Node<D> {
         ensures healthy { IsOk result → self.new.journal.failed ≡ false }
         ensures no_memory { IsErrOf result TurnFault.NoMemory → self.new.journal.failed ≡ self.old.journal.failed }
         ensures failed { IsErrOf result TurnFault.DiskFailed → self.new.journal.failed ≡ true }
+        ensures reopen { self.old.journal.failed ≡ true → (result ≡ Err TurnFault.Reopen) × (self.new ≡ self.old) }
+
+        // Where the journal's closed gate stands, also over a disk that doesn't tell its image.
+        ensures place { OnOk result (self.new.journal.place ≡ self.old.journal.place + frame_size (turn_record self.old.past self.old.came)) }
+        ensures place_kept { IsErr result → self.new.journal.place ≡ self.old.journal.place }
 
         // What `reserve_turn` is for.
         ensures enough { self.old.ready ≡ true → (told_by D.told self.old).has_room 2 (length (record_spelling (turn_record self.old.past self.old.came)) + 6) →
@@ -163,6 +175,7 @@ impl<D: Disk> Node<D> {
         // What a crash leaves, at any moment of the call, and what the call does to its disk.
         ensures crash { CrashLeaves (told_by D.told self.old) (told_by D.told self.new) self.old.journal.failed self.old.part self.old.past (with_turn self.old.past self.old.came) }
         ensures disk { RunsOn (told_by D.told self.old) (told_by D.told self.new) (IsOk result) (IsErrOf result TurnFault.NoMemory) (IsErrOf result TurnFault.DiskFailed) }
+        ensures disk_room { UsesRoom (told_by D.told self.old) (told_by D.told self.new) 2 (length (record_spelling (turn_record self.old.past self.old.came)) + 6) }
     {
         let _stands = &self.journal;
         self.may_turn()?;

@@ -57,7 +57,7 @@ pub fn seat_after(node: Node<MemDisk>, what: Arm) -> Seat
 }
 
 /// What is in doubt after a write of a record at which this arm went off. The third stroke of a write opens the record's gate.
-pub fn in_doubt(hit: Fuse, wanted: Doubt) -> Option<Doubt>
+pub fn doubt_after(hit: Fuse, wanted: Doubt) -> Option<Doubt>
     ensures { doubt_of result ≡ doubt_at hit.left (record_of wanted) }
 {
     if hit.left < 3 { None } else { Some(wanted) }

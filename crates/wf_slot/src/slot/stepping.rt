@@ -13,7 +13,7 @@ ghost use Rattle.wf_slot.specs.Seats.{IsKept};
 ghost use Rattle.wf_slot.specs.Writes.{TurnEnds, IsSpared};
 
 use crate::fuse::{Fuse, fuse_after};
-use crate::slot::falling::{in_doubt, seat_after, turn_bar_reply};
+use crate::slot::falling::{doubt_after, seat_after, turn_bar_reply};
 use crate::slot::{Doubt, Seat, Slot, sit};
 use std::mem::replace;
 use wf_disk::MemDisk;
@@ -105,7 +105,7 @@ impl Slot {
         match end {
             TurnEnd::Answered(reply) => Ok(reply),
             TurnEnd::Broke(hit) => {
-                self.doubt = in_doubt(hit, Doubt::Turns(inputs));
+                self.doubt = doubt_after(hit, Doubt::Turns(inputs));
                 match replace(&mut self.seat, Seat::Away) {
                     Seat::Up(node) => sit(&mut self.seat, seat_after(node, hit.what)),
                     Seat::Down(_) => unreachable!(),

@@ -11,7 +11,7 @@ ghost use Rattle.wf_slot.specs.Seats.{IsKept};
 ghost use Rattle.wf_slot.specs.Writes.{AdmitEnds, IsSpared};
 
 use crate::fuse::{Fuse, fuse_after};
-use crate::slot::falling::{bar_reply, in_doubt, seat_after};
+use crate::slot::falling::{bar_reply, doubt_after, seat_after};
 use crate::slot::{Doubt, Seat, Slot, sit};
 use std::mem::replace;
 use wf_disk::MemDisk;
@@ -111,7 +111,7 @@ impl Slot {
                     request,
                     outer: kept,
                 });
-                self.doubt = in_doubt(hit, record);
+                self.doubt = doubt_after(hit, record);
                 match replace(&mut self.seat, Seat::Away) {
                     Seat::Up(node) => sit(&mut self.seat, seat_after(node, hit.what)),
                     Seat::Down(_) => unreachable!(),

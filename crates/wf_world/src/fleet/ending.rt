@@ -85,7 +85,7 @@ impl Fleet {
     }
 
     // The merged list of all units.
-    fn merged(&self) -> Result<List<List<Place>>, NoMemory>
+    fn merged_list(&self) -> Result<List<List<Place>>, NoMemory>
         requires fleet { IsFleet self.now }
         ensures { IfOk result (λ merged. merged ≡ merged_places (machine_at self.now)) }
     {
@@ -108,7 +108,7 @@ impl Fleet {
     {
         let recovered = self.finish_all()?;
         let sights = self.sights()?;
-        let merged = self.merged()?;
+        let merged = self.merged_list()?;
         Ok(Ending {
             recovered,
             sights,

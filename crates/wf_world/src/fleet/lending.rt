@@ -13,7 +13,7 @@ impl Fleet {
     pub fn messages(&self) -> &List<Sent>
         ensures { result.now ≡ self.now.messages }
     {
-        self.mail.all()
+        self.mail.messages()
     }
 
     /// The history of a unit that stands for sure; none exactly if there is no such unit. Takes no memory.

@@ -11,4 +11,4 @@ returns-clause-ordered c = rw c.from_vec.ensures (c.in_ok-sort_by_key.ensures.so
 pub returns-clause-kept : goal.returns-clause-kept
 returns-clause-kept c t place =
     rw c.from_vec.ensures (stays _ _ (c.in_ok-sort_by_key.ensures.stable place_of (answers_always _ _ _ (λ f a r g h. search rules))) t place)
-    ∙ ap (λ (l : List StartAt). filter (is_at t place) l) (c.into_vec-all.ensures ∙ c.in_ok-joined.ensures)
+    ∙ ap (λ (l : List StartAt). filter (is_at t place) l) (c.into_vec-all.ensures ∙ c.in_ok-concatenation.ensures)

@@ -27,7 +27,7 @@ overflow_add-index_mut c =
     )
 
 pub loop-entry-preserved : goal.loop-entry-preserved
-loop-entry-preserved c = elim c.match-completed.branch [
+loop-entry-preserved c = elim c.match-completion_of.branch [
   | in-Some w ↦
       let within : w.in-Some.act.0 < length c.loop-entry.counts.items =
       omega (arith, w.in-Some.ensures.known, row_len (done_by c.args.chart.now (take c.loop-entry.entry-index c.args.entries.now)) (length c.args.chart.now.acts) c.loop-entry.counts.items c.loop-entry.invariant) in

@@ -8,8 +8,8 @@ use Rattle.wf_agreement.specs.Senders.{HasSender}
 use Rattle.wf_agreement.proofs.Finding.{input_passes, input_stops, no_input_left}
 use Rattle.wf_agreement.proofs.comparing.first_in_turn.Goals as goal
 
-pub sent-requires : goal.sent-requires
-sent-requires c =
+pub sent_update-requires : goal.sent_update-requires
+sent_update-requires c =
     record {
       same = c.requires.same;
       sender = subst (HasSender (length c.args.parts.now)) (sym c.kept-item.is) (c.requires.senders c.loop-kept.kept-index c.kept-item.result c.loop-kept-test.true);

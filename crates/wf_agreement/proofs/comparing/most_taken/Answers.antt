@@ -8,5 +8,5 @@ loop-history-preserved c =
     let i = c.loop-history.history-index in
     let kept = c.history-item.result in
     let is = history_at c.args.histories.now h (length c.args.histories.now) i kept are c.loop-history-test.true c.loop-history-test.true c.history-item.is in
-    c.larger-most.ensures
+    c.larger_of-most.ensures
     ∙ most_more h i c.loop-history.most (length c.turns.result.now) (c.loop-history.invariant h are) (turns_taken kept.now.past (h i) c.turns.result.now c.turns.ensures is)

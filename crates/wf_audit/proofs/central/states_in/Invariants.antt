@@ -6,4 +6,4 @@ use Rattle.wf_audit.proofs.central.states_in.Given as goal
 use Rattle.wf_model.specs.Ids.{state_id}
 
 abbrev pub invariant-loop-s : goal.invariant-loop-s
-invariant-loop-s l = l.states ≡ map state_id (filter (λ s. is_in s (central_of l.chart l.central).configuration) (range_with_len 0 l.s))
+invariant-loop-s l = l.states ≡ map state_id (filter (λ s. is_in s (central_of l.checked l.central).configuration) (range_with_len 0 l.s))

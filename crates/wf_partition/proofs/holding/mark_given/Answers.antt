@@ -1,7 +1,7 @@
-use Rattle.std.proofs.Common.{◌≡◌, ◌<◌, ◌==◌, ◌&&◌, length, get_or, rules, false, refl}
+use Rattle.std.proofs.Common.{◌≡◌, ◌<◌, ◌==◌, ◌&&◌, ◌∙◌, ℕ, Bool, List, length, get_or, rules, false, refl, ap}
 use Rattle.std.specs.List.{list_any}
-use Rattle.wf_partition.specs.Marked.{gives_at}
-use Rattle.wf_partition.proofs.Bits.{marked_none, numbers_more}
+use Rattle.wf_partition.specs.Marked.{marked, gives_at}
+use Rattle.wf_partition.proofs.Bits.{marked_none, numbers_more, marked_counted, marked_skipped}
 use Rattle.wf_partition.proofs.Known.{given_at}
 use Rattle.wf_partition.proofs.holding.mark_given.Goals as goal
 
@@ -15,5 +15,13 @@ loop-act-preserved c =
     let item = c.act-item.result in
     let within : c.loop-act.act-index < length c.args.chart.now.acts = search rules in
     let there : c.act-item.result ≡ get_or c.args.chart.now.acts c.loop-act.act-index c.act-item.result = search rules in
-    numbers_more (λ a x. gives_at chart u x a) (λ x. (item.unit.0 == u) && list_any (λ v. v.0 == x) item.outputs) c.loop-act.act-index c.args.vars.now c.loop-act.vars c.mark_outputs.new.vars
-    c.loop-act.invariant c.mark_outputs.ensures (given_at chart u c.loop-act.act-index item within there)
+    let own : Bool = item.unit.0 == u in
+    let test = λ (x : ℕ). list_any (λ v. v.0 == x) item.outputs in
+    let more = λ (new : List Bool) (made : new ≡ marked (λ x. own && test x) c.loop-act.vars).
+    numbers_more (λ a x. gives_at chart u x a) (λ x. own && test x) c.loop-act.act-index c.args.vars.now c.loop-act.vars new
+    c.loop-act.invariant made (given_at chart u c.loop-act.act-index item within there) in
+    elim c.if-act.branch [
+      | then-act w ↦ more _ (w.vars-is ∙ marked_counted own test c.loop-act.vars w.mark_vars.new.vars w.if-act.true
+          (w.mark_vars.ensures ∙ ap (λ xs. marked (λ x. list_any (λ v. v.0 == x) xs) c.loop-act.vars) w.as_slice.ensures))
+      | else-act w ↦ more _ (w.vars-is ∙ marked_skipped own test c.loop-act.vars w.if-act.false)
+    ]

@@ -2,7 +2,8 @@ use Rattle.std.proofs.Common.{◌++◌, ◌∙◌, List, ℕ, length, ap, sym, a
 use Rattle.wf_model.specs.declared.chart.Chart.{Chart}
 use Rattle.wf_parts.specs.Parts.{part_of}
 use Rattle.wf_partition.specs.SplitText.{part_text}
-use Rattle.wf_partition.proofs.UnitTexts.{few_units, pieces_more}
+use Rattle.wf_model.proofs.Few.{few_units}
+use Rattle.wf_partition.proofs.UnitTexts.{pieces_more}
 use Rattle.wf_partition.proofs.split.split_text.Goals as goal
 
 pub overflow_cast-unit : goal.overflow_cast-unit

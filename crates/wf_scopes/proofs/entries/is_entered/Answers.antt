@@ -11,7 +11,7 @@ use Rattle.wf_scopes.proofs.entries.is_entered.Goals as goal
 
 pub is_from-requires : goal.is_from-requires
 is_from-requires c =
-    let up : parent c.args.chart.now c.args.z.0 ≡ Some c.in-Some.p.0 = sym c.parent_at.ensures ∙ ap (option_map (λ (p : StateId). p.0)) c.in-Some.is in
+    let up : parent c.args.chart.now c.args.z.0 ≡ Some c.in-Some.p.0 = sym c.parent.ensures ∙ ap (option_map (λ (p : StateId). p.0)) c.in-Some.is in
     omega (
       arith,
       child_high c.args.chart.now c.requires.accepted c.in-Some.p.0 c.args.z.0 up,
@@ -20,7 +20,7 @@ is_from-requires c =
 
 pub is_picked-requires-clause-later : goal.is_picked-requires-clause-later
 is_picked-requires-clause-later c =
-    child_high c.args.chart.now c.requires.accepted c.in-Some.p.0 c.args.z.0 (sym c.parent_at.ensures ∙ ap (option_map (λ (p : StateId). p.0)) c.in-Some.is)
+    child_high c.args.chart.now c.requires.accepted c.in-Some.p.0 c.args.z.0 (sym c.parent.ensures ∙ ap (option_map (λ (p : StateId). p.0)) c.in-Some.is)
 
 pub is_picked-requires-clause-in_range : goal.is_picked-requires-clause-in_range
 is_picked-requires-clause-in_range c =
@@ -29,14 +29,14 @@ is_picked-requires-clause-in_range c =
 pub returns-then-is_from : goal.returns-then-is_from
 returns-then-is_from c =
     entered_by c.args.chart.now c.requires.accepted c.args.t.0 c.args.z.0 c.in-Some.p.0 c.args.way.scope.0 c.args.way.target.0 c.args.row.now true c.is_picked.result c.requires.in_range
-    (sym c.parent_at.ensures ∙ ap (option_map (λ (p : StateId). p.0)) c.in-Some.is) c.requires.scope c.requires.target c.requires.before (sym c.if-is_from.true ∙ c.is_from.ensures) c.is_picked.ensures
+    (sym c.parent.ensures ∙ ap (option_map (λ (p : StateId). p.0)) c.in-Some.is) c.requires.scope c.requires.target c.requires.before (sym c.if-is_from.true ∙ c.is_from.ensures) c.is_picked.ensures
 
 pub returns-else-is_from : goal.returns-else-is_from
 returns-else-is_from c =
     c.if-is_from.false
     ∙ entered_by c.args.chart.now c.requires.accepted c.args.t.0 c.args.z.0 c.in-Some.p.0 c.args.way.scope.0 c.args.way.target.0 c.args.row.now false _ c.requires.in_range
-    (sym c.parent_at.ensures ∙ ap (option_map (λ (p : StateId). p.0)) c.in-Some.is) c.requires.scope c.requires.target c.requires.before (sym c.if-is_from.false ∙ c.is_from.ensures) refl
+    (sym c.parent.ensures ∙ ap (option_map (λ (p : StateId). p.0)) c.in-Some.is) c.requires.scope c.requires.target c.requires.before (sym c.if-is_from.false ∙ c.is_from.ensures) refl
 
 pub returns-in-None : goal.returns-in-None
 returns-in-None c =
-    sym (entry_none c.args.chart.now c.requires.accepted c.args.t.0 c.args.z.0 c.requires.in_range (sym c.parent_at.ensures ∙ ap (option_map (λ (p : StateId). p.0)) c.in-None.is))
+    sym (entry_none c.args.chart.now c.requires.accepted c.args.t.0 c.args.z.0 c.requires.in_range (sym c.parent.ensures ∙ ap (option_map (λ (p : StateId). p.0)) c.in-None.is))

@@ -22,9 +22,9 @@ loop-write-preserved c =
     let many = row_len f c.args.count c.loop-write.best.items c.loop-write.invariant in
     elim c.if-at-len.branch [
       | then-at-len w ↦
-          row_step f g c.args.count o.var.0 (Some w.over.result) c.loop-write.best.items c.if-at-len.best.items c.loop-write.invariant (ap (λ v. v.items) w.best-is)
+          row_step f g c.args.count o.var.0 (Some w.winning_write.result) c.loop-write.best.items c.if-at-len.best.items c.loop-write.invariant (ap (λ v. v.items) w.best-is)
           (winner_here writes i o.var.0 o c.loop-write-test.true c.write-item.is refl
-          ∙ ap (λ (b : Option Write). over b o) (sym (w.index.ensures ∙ row_at f c.args.count o.var.0 w.index.result.now c.loop-write.best.items c.loop-write.invariant (omega (arith, w.if-at-len.true)))) ∙ sym w.over.ensures)
+          ∙ ap (λ (b : Option Write). over b o) (sym (w.index.ensures ∙ row_at f c.args.count o.var.0 w.index.result.now c.loop-write.best.items c.loop-write.invariant (omega (arith, w.if-at-len.true)))) ∙ sym w.winning_write.ensures)
           (λ k ne. winner_other writes i o.var.0 o k c.loop-write-test.true c.write-item.is refl ne)
       | else-at-len w ↦
           ap (λ v. v.items) w.best-is

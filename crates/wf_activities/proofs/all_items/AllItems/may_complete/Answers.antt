@@ -50,7 +50,7 @@ returns c = λ entries same.
     let wanted : c.index-as_slice-act.result ≡ get_or c.args.self.now.wanted c.args.act.0 c.index-as_slice-act.result =
     c.index-as_slice-act.is ∙ ap (λ (l : List (List (VarId × Sort))). get_or l c.args.act.0 c.index-as_slice-act.result) (c.as_slice.ensures ∙ ap (λ (s : Stock). s.wanted) c.self.view_is) in
     let made = wanted_read c.args.chart.now c.args.self.now c.args.act.0 there.0 c.index-as_slice-act.result c.requires.of there.1 wanted in
-    c.after.ensures
+    c.answer_unless_pending.ensures
     ∙ ap₂ unless_pending
     (c.may_complete-answer.ensures.answer
     ∙ ap₂ (λ (l : List Item) (w : List (VarId × Sort)). may_complete l c.args.item c.args.act c.args.outputs.now w) items (c.as_slice-2.ensures ∙ made))

@@ -12,8 +12,8 @@ use Rattle.wf_central.proofs.Sorts.{sorted_after}
 use Rattle.wf_central.proofs.Same.{comes, sees}
 use Rattle.wf_central.proofs.state.CentralState.after_step.Goals as goal
 
-pub open_then-requires-clause-come : goal.open_then-requires-clause-come
-open_then-requires-clause-come c =
+pub open_counts_then-requires-clause-come : goal.open_counts_then-requires-clause-come
+open_counts_then-requires-clause-come c =
     comes c.args.chart.now c.args.chart.now c.self.inside.items c.args.self.now c.args.outer.now refl (ap (λ (k : Kept). k.items) c.self.view_is) c.requires.come
 
 pub pass_all-requires-clause-sorts : goal.pass_all-requires-clause-sorts

@@ -6,7 +6,7 @@ use Rattle.wf_histories.specs.Histories.{Admission, History}
 use Rattle.wf_server.specs.Servers.{admit_record, with_admission}
 use Rattle.wf_server.proofs.Standing.{Appended}
 use Rattle.wf_server.proofs.Keeping.{residual, node_kept, node_unready}
-use Rattle.wf_server.proofs.Admitting.{crash_idle, crash_unasked, crash_asked, healthy_added, placed_added, placed_kept, stands_added, stands_kept, answer_added, answer_err, runs_of_err}
+use Rattle.wf_server.proofs.Admitting.{crash_idle, crash_unasked, crash_asked, room_idle, room_unasked, room_asked, place_added, healthy_added, placed_added, placed_kept, stands_added, stands_kept, answer_added, answer_err, runs_of_err}
 use Rattle.wf_server.proofs.node.Node.add.Given.{Over}
 use Rattle.wf_server.proofs.node.Node.add.Goals as goal
 
@@ -28,6 +28,7 @@ said_err g c = record {
   plan = c.append.ensures.plan;
   safe = c.append.ensures.safe;
   cause = c.append.ensures.cause;
+  disk_room = c.append.ensures.disk_room;
 }
 
 body_err : (g : Over) (c : goal.After-drop-body-inside-in_err-append g) → IsBodyOf (admit_record c.args.request c.args.outer.now) c.as_slice.result.now
@@ -51,6 +52,7 @@ said_ok g c = record {
   plan = c.append.ensures.plan;
   safe = c.append.ensures.safe;
   cause = c.append.ensures.cause;
+  disk_room = c.append.ensures.disk_room;
 }
 
 body_ok : (g : Over) (c : goal.After-drop-body-inside-2 g) → IsBodyOf (admit_record c.args.request c.args.outer.now) c.as_slice.result.now
@@ -100,3 +102,21 @@ returns-clause-crash g c = crash_asked g.D.Disk.told g.met.D.Disk.lawful _ _ c.s
 
 pub returns-clause-healthy : goal.returns-clause-healthy
 returns-clause-healthy g c _ = healthy_added g.D.Disk.told g.met.D.Disk.lawful _ _ c.self.view_is c.args.request c.args.outer.now c.self.invariant.stands c.requires c.append.new.self c.as_slice.result.now (body_ok g c) c.append.result (said_ok g c) c.in_ok-append.was
+
+pub returns-in_err-body-clause-disk_room : goal.returns-in_err-body-clause-disk_room
+returns-in_err-body-clause-disk_room g c = room_idle g.D.Disk.told g.met.D.Disk.lawful _ _ c.self.view_is c.args.request c.args.outer.now c.self.invariant.stands _ _
+
+pub returns-in_err-outer-clause-disk_room : goal.returns-in_err-outer-clause-disk_room
+returns-in_err-outer-clause-disk_room g c = room_idle g.D.Disk.told g.met.D.Disk.lawful _ _ c.self.view_is c.args.request c.args.outer.now c.self.invariant.stands _ _
+
+pub returns-in_err-reserve_admit-clause-disk_room : goal.returns-in_err-reserve_admit-clause-disk_room
+returns-in_err-reserve_admit-clause-disk_room g c = room_unasked g.D.Disk.told g.met.D.Disk.lawful _ _ c.self.view_is c.args.request c.args.outer.now c.self.invariant.stands _ _
+
+pub returns-in_err-append-clause-disk_room : goal.returns-in_err-append-clause-disk_room
+returns-in_err-append-clause-disk_room g c = room_asked g.D.Disk.told g.met.D.Disk.lawful _ _ c.self.view_is c.args.request c.args.outer.now c.self.invariant.stands c.requires c.append.new.self c.as_slice.result.now (body_err g c) c.append.result (said_err g c)
+
+pub returns-clause-disk_room : goal.returns-clause-disk_room
+returns-clause-disk_room g c = room_asked g.D.Disk.told g.met.D.Disk.lawful _ _ c.self.view_is c.args.request c.args.outer.now c.self.invariant.stands c.requires c.append.new.self c.as_slice.result.now (body_ok g c) c.append.result (said_ok g c)
+
+pub returns-clause-place : goal.returns-clause-place
+returns-clause-place g c _ = place_added g.D.Disk.told g.met.D.Disk.lawful _ _ c.self.view_is c.args.request c.args.outer.now c.self.invariant.stands c.requires c.append.new.self c.as_slice.result.now (body_ok g c) c.append.result (said_ok g c) c.in_ok-append.was

@@ -13,7 +13,7 @@ use Rattle.wf_server.specs.Servers.{Server, inputs_of, turn_record, with_turn}
 use Rattle.wf_server.specs.Nodes.{IsReady}
 use Rattle.wf_server.proofs.Standing.{Appended}
 use Rattle.wf_server.proofs.Keeping.{residual, node_kept, node_turned, view_turned}
-use Rattle.wf_server.proofs.Turning.{crash_asked, healthy_added, placed_added, placed_kept, stands_added, stands_kept, answer_added, answer_err, runs_added, runs_of_err, failed_memory, failed_disk, same_refused, enough_asked, took_now}
+use Rattle.wf_server.proofs.Turning.{crash_asked, room_asked, place_added, healthy_added, placed_added, placed_kept, stands_added, stands_kept, answer_added, answer_err, runs_added, runs_of_err, failed_memory, failed_disk, same_refused, enough_asked, took_now}
 use Rattle.wf_server.proofs.node.Node.add_turn.Given.{Over}
 use Rattle.wf_server.proofs.node.Node.add_turn.Goals as goal
 
@@ -35,6 +35,7 @@ said_err g c = record {
   plan = c.append.ensures.plan;
   safe = c.append.ensures.safe;
   cause = c.append.ensures.cause;
+  disk_room = c.append.ensures.disk_room;
 }
 
 ready_err : (g : Over) (c : goal.After-from_residual g) → IsReady c.self.inside.journal.room c.self.inside.replica c.self.inside.came.items c.in-Some.ready
@@ -61,6 +62,7 @@ said_ok g c = record {
   plan = c.append.ensures.plan;
   safe = c.append.ensures.safe;
   cause = c.append.ensures.cause;
+  disk_room = c.append.ensures.disk_room;
 }
 
 ready_ok : (g : Over) (c : goal.After-taken g) → IsReady c.self.inside.journal.room c.self.inside.replica c.self.inside.came.items c.in-Some.ready
@@ -133,3 +135,12 @@ returns-clause-disk g c = runs_added g.D.Disk.told g.met.D.Disk.lawful _ _ c.sel
 
 pub returns-clause-healthy : goal.returns-clause-healthy
 returns-clause-healthy g c _ = healthy_added g.D.Disk.told g.met.D.Disk.lawful _ _ c.self.view_is c.self.invariant.stands c.requires.can (ready_ok g c).may c.append.new.self c.as_slice.result.now (body_ok g c) c.append.result (said_ok g c) c.in_ok-append.was
+
+pub returns-in_err-append-clause-disk_room : goal.returns-in_err-append-clause-disk_room
+returns-in_err-append-clause-disk_room g c = room_asked g.D.Disk.told g.met.D.Disk.lawful _ _ c.self.view_is c.self.invariant.stands c.requires.can (ready_err g c).may c.append.new.self c.as_slice.result.now (body_err g c) c.append.result (said_err g c)
+
+pub returns-clause-disk_room : goal.returns-clause-disk_room
+returns-clause-disk_room g c = room_asked g.D.Disk.told g.met.D.Disk.lawful _ _ c.self.view_is c.self.invariant.stands c.requires.can (ready_ok g c).may c.append.new.self c.as_slice.result.now (body_ok g c) c.append.result (said_ok g c)
+
+pub returns-clause-place : goal.returns-clause-place
+returns-clause-place g c = place_added g.D.Disk.told g.met.D.Disk.lawful _ _ c.self.view_is c.self.invariant.stands c.requires.can (ready_ok g c).may c.append.new.self c.as_slice.result.now (body_ok g c) c.append.result (said_ok g c) c.in_ok-append.was

@@ -4,8 +4,10 @@ use Rattle.wf_steps.specs.declared.fault.RecoverFault.TheVariants as recovery
 use Rattle.wf_server.specs.declared.fault.NodeFault.{NodeFault}
 use Rattle.wf_server.specs.declared.fault.NodeFault.TheVariants as faults
 use Rattle.wf_server.specs.Starting.{unrecovered_by}
-use Rattle.wf_server.specs.Heads.{Stretch, most_head}
+use Rattle.wf_server.specs.Heads.{Stretch, HeadRoom, most_head}
+use Rattle.wf_disk.proofs.Runs.{same_first}
 use Rattle.wf_server.proofs.Stretches.{stretch_none, stretch_as}
+use Rattle.wf_server.proofs.Rooms.{head_room_same}
 use Rattle.wf_server.proofs.Starts.{unrecovered_failed}
 use Rattle.wf_server.proofs.Opened.{stands_open, placed_open, node_open}
 use Rattle.wf_server.proofs.node.Node.of_journal.Goals as goal
@@ -32,3 +34,13 @@ returns-in-Err-clause-stretch_refused g c =
     subst P (sym c.close-in-Err.ensures)
     (stretch_as c.args.part (g.D.Disk.told c.args.journal.disk) (g.D.Disk.told c.read_unit.new.journal.disk) (most_head (g.D.Disk.told c.args.journal.disk).image) (c.in-Err.refused.fault ≡ recovery.DiskFailed) (c.from.result ≡ faults.DiskFailed)
     (λ e. is ∙ ap unrecovered_by e) (λ e. unrecovered_failed c.in-Err.refused.fault (sym is ∙ e)) c.in-Err.ensures.stretch_refused)
+
+pub returns-in_default-clause-room_refused : goal.returns-in_default-clause-room_refused
+returns-in_default-clause-room_refused g c =
+    let P : g.row.D.Denot → Type 0 = λ d. HeadRoom c.args.part (g.D.Disk.told c.args.journal.disk) (g.D.Disk.told d) in
+    subst P (sym c.close.ensures) (head_room_same c.args.part (g.D.Disk.told c.args.journal.disk) (g.D.Disk.told c.args.journal.disk) (g.met.D.Disk.lawful c.args.journal.disk) (same_first (g.D.Disk.told c.args.journal.disk)))
+
+pub returns-in-Err-clause-room_refused : goal.returns-in-Err-clause-room_refused
+returns-in-Err-clause-room_refused g c =
+    let P : g.row.D.Denot → Type 0 = λ d. HeadRoom c.args.part (g.D.Disk.told c.args.journal.disk) (g.D.Disk.told d) in
+    subst P (sym c.close-in-Err.ensures) c.read_unit.ensures.room

@@ -6,4 +6,4 @@ use Rattle.wf_server.proofs.Cuts.{range_of}
 use Rattle.wf_server.proofs.node.Node.sending.Goals as goal
 
 pub returns-clause-range : goal.returns-clause-range
-returns-clause-range g c = range_of c.part.result.now.peers c.made.result.now c.args.peer.0 c.relevant.result (subst IsInRange (sym c.made.ensures.update) c.made.ensures.range) c.relevant.ensures
+returns-clause-range g c = range_of c.part.result.now.peers c.own_update.result.now c.args.peer.0 c.relevant.result (subst IsInRange (sym c.own_update.ensures.update) c.own_update.ensures.range) c.relevant.ensures

@@ -7,6 +7,8 @@ use Rattle.wf_server.proofs.Stretches.{runs_more, runs_as}
 use Rattle.wf_journal.specs.Start.{start_strokes}
 use Rattle.wf_server.specs.Starting.{most_on}
 use Rattle.wf_server.proofs.Starts.{fewer_strokes, reopens, stays_shut, if_ok, if_ok_all, if_err, if_err_both, whole_stretch, start_history, refused_here, strokes_then, start_keeps, start_stretch_refused, unstarted_fails, unstarted_failed}
+use Rattle.wf_server.proofs.Starts.{can_start_of}
+use Rattle.wf_server.proofs.Rooms.{start_room, start_room_refused, ok_always}
 use Rattle.wf_server.proofs.node.Node.start.Goals as goal
 
 pub returns-in-Ok-clause-history : goal.returns-in-Ok-clause-history
@@ -76,3 +78,15 @@ returns-in-Err-clause-runs_refused g c =
 
 pub returns-in-Err-clause-stays_shut : goal.returns-in-Err-clause-stays_shut
 returns-in-Err-clause-stays_shut g c = stays_shut c.args.part (g.D.Disk.told c.args.disk) (g.D.Disk.told c.in-Err.refused.disk) c.from.result (returns-in-Err-clause-runs_refused g c) (returns-in-Err-clause-refused g c)
+
+pub returns-in-Ok-clause-whole : goal.returns-in-Ok-clause-whole
+returns-in-Ok-clause-whole g c = ok_always c.of_journal.result _ (can_start_of (g.D.Disk.told c.args.disk) c.in-Ok.ensures.whole)
+
+pub returns-in-Ok-clause-disk_room : goal.returns-in-Ok-clause-disk_room
+returns-in-Ok-clause-disk_room g c = if_ok c.of_journal.result _ _ (λ node room. start_room c.args.part (g.D.Disk.told c.args.disk) (g.D.Disk.told c.in-Ok.journal.disk) (g.D.Disk.told node.journal.disk) c.in-Ok.ensures.kept c.in-Ok.ensures.disk_room room) c.of_journal.ensures.room
+
+pub returns-in-Ok-clause-disk_room_refused : goal.returns-in-Ok-clause-disk_room_refused
+returns-in-Ok-clause-disk_room_refused g c = if_err c.of_journal.result _ _ (λ refused room. start_room c.args.part (g.D.Disk.told c.args.disk) (g.D.Disk.told c.in-Ok.journal.disk) (g.D.Disk.told refused.disk) c.in-Ok.ensures.kept c.in-Ok.ensures.disk_room room) c.of_journal.ensures.room_refused
+
+pub returns-in-Err-clause-disk_room_refused : goal.returns-in-Err-clause-disk_room_refused
+returns-in-Err-clause-disk_room_refused g c = start_room_refused c.args.part (g.D.Disk.told c.args.disk) (g.D.Disk.told c.in-Err.refused.disk) (g.met.D.Disk.lawful c.in-Err.refused.disk) c.in-Err.ensures.disk_room_refused

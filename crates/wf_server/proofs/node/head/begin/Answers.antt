@@ -7,6 +7,7 @@ use Rattle.wf_journal.specs.declared.fault.ReadFault.TheVariants as reads
 use Rattle.wf_server.specs.Heads.{most_head}
 use Rattle.wf_server.proofs.Stretches.{stretch_same, stretch_more, stretch_as, stretch_then}
 use Rattle.wf_server.proofs.Joins.{empty_most}
+use Rattle.wf_server.proofs.Rooms.{head_room_same, head_room_empty}
 use Rattle.wf_server.proofs.node.head.begin.Goals as goal
 
 ok_not_failed : IsErrOf {T = Unit {0}} {E = WriteRefused} (Ok tt) write.Failed → ⊥
@@ -48,3 +49,13 @@ returns-in-Err-clause-stretch g c =
     (λ e. ap Err (c.unread_by.ensures.1 (err_is (sym c.in-Err.is ∙ e)))) (λ e. c.in-Err.is ∙ ap Err (c.unread_by.ensures.0 (refused_is e)))
     (stretch_more c.args.part.now old mid 0 (most_head old.image) (IsErrOf c.has_frame.result reads.DiskFailed) (omega arith)
     (stretch_same c.args.part.now old mid (IsErrOf c.has_frame.result reads.DiskFailed) (g.met.D.Disk.lawful c.args.journal.now.disk) c.has_frame.ensures.same c.has_frame.ensures.down c.has_frame.ensures.cause))
+
+pub returns-in-Ok-true-clause-room : goal.returns-in-Ok-true-clause-room
+returns-in-Ok-true-clause-room g c = head_room_same c.args.part.now (g.D.Disk.told c.args.journal.now.disk) (g.D.Disk.told c.has_frame.new.journal.disk) (g.met.D.Disk.lawful c.has_frame.new.journal.disk) c.has_frame.ensures.same
+
+pub returns-in-Ok-false-clause-room : goal.returns-in-Ok-false-clause-room
+returns-in-Ok-false-clause-room g c =
+    head_room_empty c.args.part.now (g.D.Disk.told c.args.journal.now.disk) (g.D.Disk.told c.has_frame.new.journal.disk) (g.D.Disk.told c.write_head.new.journal.disk) c.has_frame.ensures.same (c.in-Ok-false.ensures.none c.in-Ok-false.field-0-test) c.write_head.ensures.room
+
+pub returns-in-Err-clause-room : goal.returns-in-Err-clause-room
+returns-in-Err-clause-room g c = head_room_same c.args.part.now (g.D.Disk.told c.args.journal.now.disk) (g.D.Disk.told c.has_frame.new.journal.disk) (g.met.D.Disk.lawful c.has_frame.new.journal.disk) c.has_frame.ensures.same

@@ -5,6 +5,7 @@ use Rattle.wf_disk.specs.declared.disk.WriteRefused.TheVariants as write
 use Rattle.wf_steps.specs.declared.fault.RecoverFault.TheVariants as recovery
 use Rattle.wf_server.specs.Heads.{Stretch, most_head}
 use Rattle.wf_server.proofs.Stretches.{stretch_same, stretch_more, stretch_then}
+use Rattle.wf_server.proofs.Rooms.{head_room_then}
 use Rattle.wf_server.proofs.Joins.{open_same, read_ok, read_end, read_err, stretch_ok, stretch_err}
 use Rattle.wf_server.proofs.node.head.read_unit.Given.{Over}
 use Rattle.wf_server.proofs.node.head.read_unit.Goals as goal
@@ -49,3 +50,6 @@ returns-in-Ok-clause-end g c =
 
 pub returns-in-Ok-clause-begun : goal.returns-in-Ok-clause-begun
 returns-in-Ok-clause-begun g c = open_same c.recover.result (g.D.Disk.told c.begin.new.journal.disk) (g.D.Disk.told c.recover.new.journal.disk) c.in-Ok.ensures.begun c.recover.ensures.same
+
+pub returns-in-Ok-clause-room : goal.returns-in-Ok-clause-room
+returns-in-Ok-clause-room g c = head_room_then c.args.part (g.D.Disk.told c.args.journal.now.disk) (g.D.Disk.told c.begin.new.journal.disk) (g.D.Disk.told c.recover.new.journal.disk) c.begin.ensures.room c.recover.ensures.same

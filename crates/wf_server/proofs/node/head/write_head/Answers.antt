@@ -12,6 +12,8 @@ use Rattle.wf_server.proofs.Standing.{Appended}
 use Rattle.wf_server.proofs.Stretches.{stretch_none, stretch_as}
 use Rattle.wf_server.proofs.Empty.{chart_in_head, unit_in_head}
 use Rattle.wf_server.proofs.HeadWrites.{head_stretch, head_open}
+use Rattle.wf_server.proofs.Runs.{room_none}
+use Rattle.wf_server.proofs.Asked.{room_used}
 use Rattle.wf_server.proofs.node.head.write_head.Given.{Over}
 use Rattle.wf_server.proofs.node.head.write_head.Goals as goal
 
@@ -33,13 +35,17 @@ said_ok g c = record {
   plan = c.append.ensures.plan;
   safe = c.append.ensures.safe;
   cause = c.append.ensures.cause;
+  disk_room = c.append.ensures.disk_room;
 }
 
-read_ok : (g : Over) (c : goal.After-drop-body-inside g) → record_of c.as_slice.result.now ≡ Some (Head 1 c.args.part.now.chart c.args.part.now.name)
-read_ok g c =
+body_ok : (g : Over) (c : goal.After-drop-body-inside g) → IsBodyOf (Head 1 c.args.part.now.chart c.args.part.now.name) c.as_slice.result.now
+body_ok g c =
     let body : IsBodyOf (Head 1 c.data-data.result.now.chart c.data-data.result.now.name) c.as_slice.result.now = subst (IsBodyOf (Head 1 c.data-data.result.now.chart c.data-data.result.now.name)) (sym c.as_slice.ensures) c.in-Ok.ensures in
-    let P : PartData → Type 0 = λ p. record_of c.as_slice.result.now ≡ Some (Head 1 p.chart p.name) in
-    subst P c.data-data.ensures.same body.read
+    let P : PartData → Type 0 = λ p. IsBodyOf (Head 1 p.chart p.name) c.as_slice.result.now in
+    subst P c.data-data.ensures.same body
+
+read_ok : (g : Over) (c : goal.After-drop-body-inside g) → record_of c.as_slice.result.now ≡ Some (Head 1 c.args.part.now.chart c.args.part.now.name)
+read_ok g c = (body_ok g c).read
 
 said_err : (g : Over) (c : goal.After-drop-body-inside-2 g) → Appended g.D.Disk.told c.args.journal.now c.append.new.self c.as_slice.result.now c.append.result
 said_err g c = record {
@@ -59,13 +65,17 @@ said_err g c = record {
   plan = c.append.ensures.plan;
   safe = c.append.ensures.safe;
   cause = c.append.ensures.cause;
+  disk_room = c.append.ensures.disk_room;
 }
 
-read_err : (g : Over) (c : goal.After-drop-body-inside-2 g) → record_of c.as_slice.result.now ≡ Some (Head 1 c.args.part.now.chart c.args.part.now.name)
-read_err g c =
+body_err : (g : Over) (c : goal.After-drop-body-inside-2 g) → IsBodyOf (Head 1 c.args.part.now.chart c.args.part.now.name) c.as_slice.result.now
+body_err g c =
     let body : IsBodyOf (Head 1 c.data-data.result.now.chart c.data-data.result.now.name) c.as_slice.result.now = subst (IsBodyOf (Head 1 c.data-data.result.now.chart c.data-data.result.now.name)) (sym c.as_slice.ensures) c.in-Ok.ensures in
-    let P : PartData → Type 0 = λ p. record_of c.as_slice.result.now ≡ Some (Head 1 p.chart p.name) in
-    subst P c.data-data.ensures.same body.read
+    let P : PartData → Type 0 = λ p. IsBodyOf (Head 1 p.chart p.name) c.as_slice.result.now in
+    subst P c.data-data.ensures.same body
+
+read_err : (g : Over) (c : goal.After-drop-body-inside-2 g) → record_of c.as_slice.result.now ≡ Some (Head 1 c.args.part.now.chart c.args.part.now.name)
+read_err g c = (body_err g c).read
 
 ok_not_failed : IsErrOf {T = Unit {0}} {E = WriteRefused} (Ok tt) write.Failed → ⊥
 ok_not_failed e = cc e
@@ -105,3 +115,12 @@ returns-clause-stretch g c =
     stretch_as c.args.part.now (g.D.Disk.told c.args.journal.now.disk) (g.D.Disk.told c.append.new.self.disk) 4 (IsErrOf c.append.result appends.DiskFailed) _
     (λ e. ap Err (c.unwritten_by.ensures.1 (err_is (sym c.in-Err.is ∙ e)))) (λ e. c.in-Err.is ∙ ap Err (c.unwritten_by.ensures.0 (refused_is e)))
     (head_stretch g.D.Disk.told g.met.D.Disk.lawful c.args.journal.now c.append.new.self c.as_slice.result.now c.append.result (said_err g c) c.args.part.now c.requires.healthy c.requires.empty (read_err g c))
+
+pub returns-in_default-clause-room : goal.returns-in_default-clause-room
+returns-in_default-clause-room g c = room_none (g.D.Disk.told c.args.journal.now.disk) (g.met.D.Disk.lawful c.args.journal.now.disk) _ _
+
+pub returns-in-Ok-append-clause-room : goal.returns-in-Ok-append-clause-room
+returns-in-Ok-append-clause-room g c = room_used g.D.Disk.told c.args.journal.now c.append.new.self (Head 1 c.args.part.now.chart c.args.part.now.name) c.as_slice.result.now (body_ok g c) c.append.result (said_ok g c)
+
+pub returns-clause-room : goal.returns-clause-room
+returns-clause-room g c = room_used g.D.Disk.told c.args.journal.now c.append.new.self (Head 1 c.args.part.now.chart c.args.part.now.name) c.as_slice.result.now (body_err g c) c.append.result (said_err g c)

@@ -61,7 +61,7 @@ pub sit-requires : goal.sit-requires
 sit-requires c = c.replace.ensures.after
 
 pub invariant_of-self-in-Up-replace : goal.invariant_of-self-in-Up-replace
-invariant_of-self-in-Up-replace c = unadmitted_slot c.self.inside.seat c.self.inside.fuse c.self.inside.doubt c.args.self.now c.self.view_is c.self.invariant (c.works.ensures.tells.0 c.if-not-works.false) c.in-Up.node c.in-Up.is c.admit_up.new.node c.admit_up.new.fuse c.args.request c.args.outer.now c.in_ok-end-in-Up.end c.in_ok-end-in-Up.ensures.ends c.in-Broke.hit c.in-Broke.is c.in-Up-replace.node (sym c.replace.ensures.value ∙ c.in-Up-replace.is) c.seat_after.result c.sit.new.place c.seat_after.ensures c.sit.ensures c.in_doubt.result c.in_ok-kept.kept c.in_ok-kept.ensures c.in_doubt.ensures
+invariant_of-self-in-Up-replace c = unadmitted_slot c.self.inside.seat c.self.inside.fuse c.self.inside.doubt c.args.self.now c.self.view_is c.self.invariant (c.works.ensures.tells.0 c.if-not-works.false) c.in-Up.node c.in-Up.is c.admit_up.new.node c.admit_up.new.fuse c.args.request c.args.outer.now c.in_ok-end-in-Up.end c.in_ok-end-in-Up.ensures.ends c.in-Broke.hit c.in-Broke.is c.in-Up-replace.node (sym c.replace.ensures.value ∙ c.in-Up-replace.is) c.seat_after.result c.sit.new.place c.seat_after.ensures c.sit.ensures c.doubt_after.result c.in_ok-kept.kept c.in_ok-kept.ensures c.doubt_after.ensures
 
 pub unreachable-requires-in-Down-replace : goal.unreachable-requires-in-Down-replace
 unreachable-requires-in-Down-replace c = up_not_down c.admit_up.new.node c.in-Down-replace.field-0 (sym c.replace.ensures.value ∙ c.in-Down-replace.is)
@@ -97,10 +97,10 @@ returns-in-Answered-clause-goes c =
     ]
 
 pub returns-in-Up-replace-clause-answer : goal.returns-in-Up-replace-clause-answer
-returns-in-Up-replace-clause-answer c = unadmitted_answer c.self.inside.seat c.self.inside.fuse c.self.inside.doubt c.args.self.now c.self.view_is c.self.invariant (c.works.ensures.tells.0 c.if-not-works.false) c.in-Up.node c.in-Up.is c.admit_up.new.node c.admit_up.new.fuse c.args.request c.args.outer.now c.in_ok-end-in-Up.end c.in_ok-end-in-Up.ensures.ends c.in-Broke.hit c.in-Broke.is c.in-Up-replace.node (sym c.replace.ensures.value ∙ c.in-Up-replace.is) c.seat_after.result c.sit.new.place c.seat_after.ensures c.sit.ensures c.in_doubt.result c.in_ok-kept.kept c.in_ok-kept.ensures c.in_doubt.ensures c.bar_reply.result c.bar_reply.ensures
+returns-in-Up-replace-clause-answer c = unadmitted_answer c.self.inside.seat c.self.inside.fuse c.self.inside.doubt c.args.self.now c.self.view_is c.self.invariant (c.works.ensures.tells.0 c.if-not-works.false) c.in-Up.node c.in-Up.is c.admit_up.new.node c.admit_up.new.fuse c.args.request c.args.outer.now c.in_ok-end-in-Up.end c.in_ok-end-in-Up.ensures.ends c.in-Broke.hit c.in-Broke.is c.in-Up-replace.node (sym c.replace.ensures.value ∙ c.in-Up-replace.is) c.seat_after.result c.sit.new.place c.seat_after.ensures c.sit.ensures c.doubt_after.result c.in_ok-kept.kept c.in_ok-kept.ensures c.doubt_after.ensures c.bar_reply.result c.bar_reply.ensures
 
 pub returns-in-Up-replace-clause-writes : goal.returns-in-Up-replace-clause-writes
-returns-in-Up-replace-clause-writes c = unadmitted_writes c.self.inside.seat c.self.inside.fuse c.self.inside.doubt c.args.self.now c.self.view_is c.self.invariant (c.works.ensures.tells.0 c.if-not-works.false) c.in-Up.node c.in-Up.is c.admit_up.new.node c.admit_up.new.fuse c.args.request c.args.outer.now c.in_ok-end-in-Up.end c.in_ok-end-in-Up.ensures.ends c.in-Broke.hit c.in-Broke.is c.in-Up-replace.node (sym c.replace.ensures.value ∙ c.in-Up-replace.is) c.seat_after.result c.sit.new.place c.seat_after.ensures c.sit.ensures c.in_doubt.result c.in_ok-kept.kept c.in_ok-kept.ensures c.in_doubt.ensures
+returns-in-Up-replace-clause-writes c = unadmitted_writes c.self.inside.seat c.self.inside.fuse c.self.inside.doubt c.args.self.now c.self.view_is c.self.invariant (c.works.ensures.tells.0 c.if-not-works.false) c.in-Up.node c.in-Up.is c.admit_up.new.node c.admit_up.new.fuse c.args.request c.args.outer.now c.in_ok-end-in-Up.end c.in_ok-end-in-Up.ensures.ends c.in-Broke.hit c.in-Broke.is c.in-Up-replace.node (sym c.replace.ensures.value ∙ c.in-Up-replace.is) c.seat_after.result c.sit.new.place c.seat_after.ensures c.sit.ensures c.doubt_after.result c.in_ok-kept.kept c.in_ok-kept.ensures c.doubt_after.ensures
 
 pub returns-in-Up-replace-clause-goes : goal.returns-in-Up-replace-clause-goes
-returns-in-Up-replace-clause-goes c = unadmitted_goes c.self.inside.seat c.self.inside.fuse c.self.inside.doubt c.args.self.now c.self.view_is c.self.invariant (c.works.ensures.tells.0 c.if-not-works.false) c.in-Up.node c.in-Up.is c.admit_up.new.node c.admit_up.new.fuse c.args.request c.args.outer.now c.in_ok-end-in-Up.end c.in_ok-end-in-Up.ensures.ends c.in-Broke.hit c.in-Broke.is c.in-Up-replace.node (sym c.replace.ensures.value ∙ c.in-Up-replace.is) c.seat_after.result c.sit.new.place c.seat_after.ensures c.sit.ensures c.in_doubt.result c.in_ok-kept.kept c.in_ok-kept.ensures c.in_doubt.ensures
+returns-in-Up-replace-clause-goes c = unadmitted_goes c.self.inside.seat c.self.inside.fuse c.self.inside.doubt c.args.self.now c.self.view_is c.self.invariant (c.works.ensures.tells.0 c.if-not-works.false) c.in-Up.node c.in-Up.is c.admit_up.new.node c.admit_up.new.fuse c.args.request c.args.outer.now c.in_ok-end-in-Up.end c.in_ok-end-in-Up.ensures.ends c.in-Broke.hit c.in-Broke.is c.in-Up-replace.node (sym c.replace.ensures.value ∙ c.in-Up-replace.is) c.seat_after.result c.sit.new.place c.seat_after.ensures c.sit.ensures c.doubt_after.result c.in_ok-kept.kept c.in_ok-kept.ensures c.doubt_after.ensures

@@ -34,7 +34,7 @@ absorb-requires c =
     (absorb_fits c.self.inside.part c.self.inside.history.past c.args.inputs c.self.invariant.made c.data-data.ensures.part may))
 
 pub first_outers-requires : goal.first_outers-requires
-first_outers-requires c = omega (arith, c.sealing-sealed.ensures, ap length c.waiting.ensures, length-drop (sum (seals c.args.self.now.past)) c.args.self.now.past.admissions)
+first_outers-requires c = omega (arith, c.next_sealed-sealed.ensures, ap length c.pending_admissions.ensures, length-drop (sum (seals c.args.self.now.past)) c.args.self.now.past.admissions)
 
 pub own_step-requires : goal.own_step-requires
 own_step-requires c =
@@ -61,12 +61,12 @@ returns-clause-prepared c =
     c.in_ok-absorb.ensures.ok ∙ ap (λ (v : View). absorbed c.self.inside.part v c.as_slice-3.result.now) (c.in_ok-view.ensures ∙ c.self.invariant.view_is) in
     let past_is : c.args.self.now.past ≡ c.self.inside.history.past = ap (λ (s : Replicated). s.past) (sym c.self.view_is) in
     let step : c.taken-step.result ≡ taken c.self.inside.history.past = c.taken-step.ensures.taken ∙ ap taken past_is in
-    let sealed : c.sealing-sealed.result ≡ sealing c.self.inside.history.past = c.sealing-sealed.ensures ∙ ap sealing past_is in
-    let waiting : c.waiting.result.now ≡ drop (sum (seals c.self.inside.history.past)) c.self.inside.history.past.admissions = c.waiting.ensures ∙ ap (λ (h : History). drop (sum (seals h)) h.admissions) past_is in
+    let sealed : c.next_sealed-sealed.result ≡ sealing c.self.inside.history.past = c.next_sealed-sealed.ensures ∙ ap sealing past_is in
+    let waiting : c.pending_admissions.result.now ≡ drop (sum (seals c.self.inside.history.past)) c.self.inside.history.past.admissions = c.pending_admissions.ensures ∙ ap (λ (h : History). drop (sum (seals h)) h.admissions) past_is in
     let outers_are : c.in_ok-outers.outers ≡ outers (take (sealing c.self.inside.history.past) (drop (sum (seals c.self.inside.history.past)) c.self.inside.history.past.admissions)) =
     c.in_ok-outers.ensures ∙ ap₂ (λ (n : ℕ) (l : List Admission). outers (take n l)) sealed waiting in
     prepared_is c.self.inside.part c.self.inside.history.past c.args.inputs
-    (record { done = record { step = c.taken-step.result + 1; inputs = c.args.inputs; sealed = c.sealing-sealed.result }; view = c.absorb.new.self; next = c.in_ok-next.next; starts = c.in_ok-starts.starts })
+    (record { done = record { step = c.taken-step.result + 1; inputs = c.args.inputs; sealed = c.next_sealed-sealed.result }; view = c.absorb.new.self; next = c.in_ok-next.next; starts = c.in_ok-starts.starts })
     (ap (λ (n : ℕ). n + 1) step) refl sealed
     (view_after c.self.inside.part c.self.inside.history.past c.args.inputs c.self.invariant.made c.as_slice-3.result.now c.absorb.new.self all_is view_is)
     (c.in_ok-next.ensures

@@ -1,7 +1,0 @@
-use Rattle.std.proofs.Common.{◌≡◌, take}
-use Rattle.wf_model.specs.Bits.{bit}
-use Rattle.wf_updates.specs.After.{moved}
-use Rattle.wf_updates.proofs.after.moved.Given as goal
-
-abbrev pub invariant-loop-state : goal.invariant-loop-state
-invariant-loop-state l = l.ids ≡ moved (take l.state-index l.known) (bit l.inside) (bit l.flipped)

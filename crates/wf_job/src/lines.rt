@@ -2,7 +2,6 @@
 ghost use Rattle.std.specs.Prelude.{◌≡◌, ◌≤◌, ◌<◌, ◌∷◌, IfOk, IfSome};
 ghost use Rattle.wf_scripts.specs.Finders.{finder_of};
 ghost use Rattle.wf_scripts.specs.Outers.{done_of};
-ghost use Rattle.wf_play.specs.Lines.{positive, count_at};
 ghost use Rattle.wf_job.specs.Lines as spec;
 
 use crate::job::{ClientLine, WorkerLine};
@@ -10,7 +9,8 @@ use std::alloc::Global;
 use wf_lex::Token;
 use wf_model::limits::{MAX_CLIENTS, MAX_GOAL, MAX_WORKERS};
 use wf_model::{EventId, List, NoMemory, Outer, UnitId};
-use wf_scripts::{Grammar, Names, int_at, outer_of, text_at};
+use wf_play::count_at;
+use wf_scripts::{Grammar, Names, outer_of, text_at};
 
 /// What a line of a host's script says.
 #[derive(Drop)]
@@ -21,24 +21,6 @@ pub enum HostLine {
     Worker(WorkerLine),
     /// So many steps are to follow.
     Goal(u32),
-}
-
-fn positive(number: Option<u64>) -> Option<u32>
-    requires { IfSome number (λ n. n ≤ u32.MAX) }
-    ensures { result ≡ positive number }
-{
-    match number {
-        None | Some(0) => None,
-        Some(n) => Some(n as u32),
-    }
-}
-
-// The number of an Int, where it is from 1 to this.
-fn count_at(most: u64, line: &[u8], token: &Token) -> Option<u32>
-    requires { most ≤ u32.MAX }
-    ensures { result ≡ count_at most line.now token.now }
-{
-    positive(int_at(most, line, token))
 }
 
 fn goal_line(word: &[u8], goal: Option<u32>) -> Option<HostLine>

@@ -1,26 +1,14 @@
 //! Which lines of a host's script may stand behind others.
 ghost use Rattle.std.specs.Prelude.{◌≡◌, ◌==◌, ◌&&◌};
 ghost use Rattle.std.specs.List.{list_any};
-ghost use Rattle.wf_semantics.specs.Admission.{is_event_at, is_act_at, are_values, are_outputs_of};
+ghost use Rattle.wf_semantics.specs.Admission.{is_act_at, are_values, are_outputs_of};
 ghost use Rattle.wf_job.specs.Drafts as spec;
 ghost use Rattle.wf_job.specs.Values.{is_value_of};
 
 use crate::job::{ClientLine, WorkerLine};
-use wf_activities::has_sort;
+use wf_activities::{has_sort, is_event_at};
 use wf_model::limits::MAX_CLIENT_LINES;
 use wf_model::{ActId, Chart, EventId, Output, UnitId, VarId};
-
-fn is_event_at(chart: &Chart, unit: UnitId, event: EventId) -> bool
-    ensures { result ≡ is_event_at chart.now unit.0 event.0 }
-{
-    match chart.events.get(event.0 as usize) {
-        Some(event) => match event.unit {
-            Some(at) => at.0 == unit.0,
-            None => false,
-        },
-        None => false,
-    }
-}
 
 fn is_with(clients: &[ClientLine], line: ClientLine) -> bool
     ensures { result ≡ spec.is_with clients.now line }

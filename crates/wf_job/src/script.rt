@@ -1,51 +1,16 @@
 //! Scripts of a host.
-ghost use Rattle.std.specs.Prelude.{◌≡◌, ◌≤◌, length, IfOk};
-ghost use Rattle.std.specs.Result.{result_ok};
+ghost use Rattle.std.specs.Prelude.{◌≤◌, length};
 ghost use Rattle.wf_model.specs.Limits.{max_input};
 ghost use Rattle.wf_model.specs.Steps.{Gives};
-ghost use Rattle.wf_lex.specs.Lex.{line_tokens_of};
 ghost use Rattle.wf_scripts.specs.Finders.{finder_of};
-ghost use Rattle.wf_scripts.specs.Script.{line_by};
-ghost use Rattle.wf_job.specs.Lines.{said_by};
 ghost use Rattle.wf_job.specs.Script as spec;
 
 use crate::draft::Draft;
 use crate::job::HostJob;
 use crate::lines::{HostLine, HostLines};
 use std::alloc::Global;
-use wf_lex::{LexFault, Token, line_tokens};
-use wf_model::{Chart, Checked, List, NoMemory};
-use wf_scripts::{Grammar, Names, ScriptFault, split_line};
-
-// The tokens of a line, if it has no fault. Linear in the line.
-fn tokens_in(alloc: Global, line: &[u8]) -> Result<Option<List<Token>>, NoMemory>
-    requires { length line.now ≤ max_input }
-    ensures { IfOk result (λ found. found ≡ result_ok (line_tokens_of line.now)) }
-{
-    match line_tokens(alloc, line) {
-        Ok(found) => Ok(Some(found)),
-        Err(LexFault::NoMemory) => Err(NoMemory),
-        Err(_) => Ok(None),
-    }
-}
-
-// What the line with this number says.
-#[tactic(auto, unfolding(wf_scripts::specs::Script::line_by))]
-fn line_at(
-    alloc: Global,
-    names: &Names,
-    number: u32,
-    line: &[u8],
-) -> Result<Option<HostLine>, ScriptFault>
-    requires { length line.now ≤ max_input }
-    ensures { Gives ScriptFault.NoMemory result (line_by said_by (finder_of names.now) number line.now) }
-{
-    let said = match tokens_in(alloc, line)? {
-        Some(tokens) => HostLines::said_by(alloc, names, line, tokens.as_slice())?,
-        None => None,
-    };
-    said.ok_or(ScriptFault::Refused { line: number })
-}
+use wf_model::{Chart, Checked};
+use wf_scripts::{Names, ScriptFault, line_at, split_line};
 
 // The draft with the line of this number.
 fn with_line(
@@ -59,7 +24,7 @@ fn with_line(
     requires { length line.now ≤ max_input }
     ensures { Gives ScriptFault.NoMemory result (spec.with_line chart.now (finder_of names.now) number line.now draft) }
 {
-    let said = line_at(alloc, names, number, line)?;
+    let said = line_at::<HostLines>(alloc, names, number, line)?;
     let next = draft.with_said(chart, said)?;
     next.ok_or(ScriptFault::Refused { line: number })
 }

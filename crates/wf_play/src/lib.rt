@@ -15,5 +15,6 @@ mod reply;
 mod script;
 
 pub use ending::append_ending;
+pub use lines::count_at;
 pub use reply::append_reply;
 pub use script::read_play;

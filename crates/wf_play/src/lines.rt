@@ -41,8 +41,9 @@ fn positive_count(number: Option<u64>) -> Option<u32>
     }
 }
 
-// The number of an Int, where it is from 1 to this.
-fn count_at(most: u64, line: &[u8], token: &Token) -> Option<u32>
+/// The number of an Int token of a line, if it is from 1 to `most`; else, and where the token isn't one, nothing. It takes no memory. In
+/// linear time in the token.
+pub fn count_at(most: u64, line: &[u8], token: &Token) -> Option<u32>
     requires { most ≤ u32.MAX }
     ensures { result ≡ spec.count_at most line.now token.now }
 {

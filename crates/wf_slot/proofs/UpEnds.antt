@@ -1,5 +1,5 @@
 -- What a call makes of a unit that is up and works, by how the call of its server ended.
-use Rattle.std.proofs.Common.{◌≡◌, ℕ, List, Option, None, refl, sym, ap, ◌∙◌, subst}
+use Rattle.std.proofs.Common.{◌≡◌, ℕ, List, Option, Some, None, refl, sym, ap, ◌∙◌, subst}
 use Rattle.wf_model.specs.declared.outer.Outer.{Outer}
 use Rattle.wf_model.specs.declared.update.Update.{Update}
 use Rattle.wf_disk.specs.Memory.{Held}
@@ -30,6 +30,9 @@ use Rattle.wf_slot.proofs.Ups.{inputs_up, admit_answer, admit_writes, admit_goes
 -- a seat that was up is taken out as it was
 pub up_not_down : (node : Server Held) (remains : Remains) → ◌≡◌ {A = Seat} (Up node) (Down remains) → ⊥
 up_not_down node remains e = cc
+
+some_not_none : (hit : Kept) → ◌≡◌ {A = Option Kept} (Some hit) None → ⊥
+some_not_none hit e = cc
 
 pub up_not_away : (node : Server Held) → ◌≡◌ {A = Seat} (Up node) Away → ⊥
 up_not_away node e = cc
@@ -108,18 +111,23 @@ module _ (seat : Seat) (fuse : Option Kept) (doubt : Option Doubt) (now : SlotSt
 
     -- its write broke off, and copies of the updates are in doubt
     module _ (hit : Kept) (end_is : end ≡ turn.Broke hit) (out : Server Held) (same : ◌≡◌ {A = Seat} (Up new) (Up out)) (there next : Seat) (at : BreaksTo out hit.what there) (next_is : next ≡ there)
-        (d : Option Doubt) (copies : List Update) (copies_are : copies ≡ inputs_of now.came) (d_is : doubt_of d ≡ doubt_at hit.left (Turns copies)) where
+        (d : Option Doubt) (copies : List Update) (copies_are : (now.fuse ≡ None → ⊥) → copies ≡ inputs_of now.came) (d_is : doubt_of d ≡ doubt_at hit.left (Turns copies)) where
       abbrev updates : List Update
       updates = inputs_of node.came
 
-      broke_off : AreAllOf (up node fuse) updates × BrokeOff node fuse (Turns updates) new hit × (rest ≡ None)
+      broke_off : AreAllOf (up node fuse) updates × BrokeOff node fuse (Turns updates) new hit × (rest ≡ None) × (fuse ≡ Some hit)
       broke_off = subst (λ (e : TurnEnd). TurnEnds node fuse new rest e) end_is ends
 
       goes_there : BreaksTo new hit.what next
       goes_there = breaks_to new out hit.what next there same at next_is
 
+      armed : now.fuse ≡ None → ⊥
+      armed none =
+          let same_fuse : now.fuse ≡ fuse = sym (ap (λ (s : SlotState). s.fuse) view) ∙ ap (λ (s : Seat). (state_of s fuse doubt).fuse) is in
+          some_not_none hit (sym broke_off.3 ∙ sym same_fuse ∙ none)
+
       in_doubt : doubt_of d ≡ doubt_at hit.left (Turns updates)
-      in_doubt = d_is ∙ ap (λ (us : List Update). doubt_at hit.left (Turns us)) (copies_are ∙ inputs_up seat fuse doubt now view kept works node is)
+      in_doubt = d_is ∙ ap (λ (us : List Update). doubt_at hit.left (Turns us)) (copies_are armed ∙ inputs_up seat fuse doubt now view kept works node is)
 
       pub unturned_slot : IsSlot next rest d
       unturned_slot = broke_slot seat fuse doubt now view kept works node is (Turns updates) new hit broke_off.1 next goes_there rest broke_off.2 d in_doubt

@@ -80,7 +80,8 @@ pub record AreAllOf (slot : SlotState) (updates : List Update) : Type 0 where
 
 abbrev pub TurnEnds : Server Held → Option Kept → Server Held → Option Kept → TurnEnd → Type 0
 TurnEnds node fuse new rest (turn.Answered r) = TurnAnswered node fuse new rest r
-TurnEnds node fuse new rest (turn.Broke hit) = AreAllOf (up node fuse) (inputs_of node.came) × BrokeOff node fuse (Turns (inputs_of node.came)) new hit × (rest ≡ None)
+TurnEnds node fuse new rest (turn.Broke hit) =
+    AreAllOf (up node fuse) (inputs_of node.came) × BrokeOff node fuse (Turns (inputs_of node.came)) new hit × (rest ≡ None) × (fuse ≡ Some hit)
 
 -- memory ran out in a call of a server: its history stays, and its disk has no arm
 pub record IsSpared (node new : Server Held) : Type 0 where

@@ -58,17 +58,18 @@ pub fn missing_peers(part: &PartData, came: &[Option<Update>]) -> UnitSet
     UnitSet(set)
 }
 
-/// Copies of what came, in unit order. In linear time in them.
+/// Copies of what came, in unit order. One slot is the unit's own, where nothing comes, so there is room for one fewer than slots. In
+/// linear time in them.
 pub fn copies_of(alloc: Global, slots: &[Option<Update>]) -> Result<List<Update>, NoMemory>
     ensures { IfOk result (λ inputs. inputs ≡ inputs_of slots.now) }
 {
-    let mut inputs = List::new(alloc);
+    let mut inputs = Vec::with_capacity(alloc, slots.len().saturating_sub(1))?;
     for slot in slots {
         if let Some(update) = slot {
             inputs.push(update.copy(alloc)?)?;
         }
     }
-    Ok(inputs)
+    Ok(List::from_vec(inputs))
 }
 
 /// A slot for each unit, which holds nothing. It refuses only if memory runs out. In linear time in the units.

@@ -80,8 +80,19 @@ impl Slot {
         }
     }
 
+    // The same if an arm is set. Without one no turn breaks off, so nothing is copied.
+    fn inputs_in_doubt(&self) -> Result<List<Update>, NoMemory>
+        requires { self.now.health ≢ IsDown }
+        ensures { IfOk result (λ inputs. self.now.fuse ≢ None → inputs ≡ inputs_of self.now.came) }
+    {
+        match &self.fuse {
+            Some(_) => self.inputs(),
+            None => Ok(List::new(self.alloc)),
+        }
+    }
+
     /// Takes the next step, as the machine does. The disk's clock isn't near its end, the journal has room for every record, and a step is
-    /// left. It refuses only if memory runs out, and then it is some unit. In linear time in the updates, the part and the view.
+    /// left. It refuses only if memory runs out. In linear time in the updates, the part and the view.
     pub fn turn(&mut self) -> Result<TurnReply, NoMemory>
         requires early { self.old.clock + 2000 ≤ last_count }
         requires not_full { gate_place self.old.part.chart self.old.part.name self.old.past + LAST ≤ max_journal }
@@ -96,7 +107,7 @@ impl Slot {
         if !self.works() {
             return Ok(TurnReply::Reopen);
         }
-        let inputs = self.inputs()?;
+        let inputs = self.inputs_in_doubt()?;
         let end = match &mut self.seat {
             Seat::Up(node) => turn_up(node, &mut self.fuse)?,
             Seat::Down(_) => unreachable!(),

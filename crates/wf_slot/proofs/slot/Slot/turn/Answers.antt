@@ -23,8 +23,8 @@ returns-then-not-works-clause-writes c = same_turn_writes c.args.self.now
 pub returns-then-not-works-clause-goes : goal.returns-then-not-works-clause-goes
 returns-then-not-works-clause-goes c = same_goes c.args.self.now 4
 
-pub inputs-requires : goal.inputs-requires
-inputs-requires c = λ e. true≢false (sym (c.is_down.ensures.1 e) ∙ c.if-is_down.false)
+pub inputs_in_doubt-requires : goal.inputs_in_doubt-requires
+inputs_in_doubt-requires c = λ e. true≢false (sym (c.is_down.ensures.1 e) ∙ c.if-is_down.false)
 
 pub turn_up-requires-clause-healthy : goal.turn_up-requires-clause-healthy
 turn_up-requires-clause-healthy c = healthy c.self.inside.seat c.self.inside.fuse c.self.inside.doubt c.args.self.now c.self.view_is c.self.invariant (c.works.ensures.tells.0 c.if-not-works.false) c.in-Up.node c.in-Up.is

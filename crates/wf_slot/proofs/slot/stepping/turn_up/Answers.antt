@@ -76,6 +76,7 @@ returns-in-Some-clause-ends c =
       all_of c.args.node.now c.args.fuse.now c.requires.healthy c.turn.ensures.inbox said.0.came,
       turn_broke_off c.args.node.now c.args.fuse.now c.requires.healthy c.requires.kept c.requires.early c.turn.new.self c.turn.ensures.disk is c.in-Some.hit (sym c.take.ensures.value ∙ c.in-Some.is) c.turn.ensures.crash (c.turn.ensures.kept (is_err is)) (c.turn.ensures.failed is),
       c.take.ensures.after,
+      sym c.take.ensures.value ∙ c.in-Some.is,
     )
 
 pub returns-in-Err-NoMemory-clause-spared : goal.returns-in-Err-NoMemory-clause-spared

@@ -28,7 +28,7 @@ fn finish<K: Sink>(sink: &mut K, status: Status, text: &[u8]) -> Status
 /// Does what the words say over all that the source has left, writes to the sink, and tells how it ended. The word
 /// `check` checks the chart of an input, the word `central` runs its script on the chart, the word `split` cuts the chart
 /// into the parts of its units, the word `play` runs its script on servers of all units. The words `gen N` write the input
-/// that is generated from the number N, and read nothing. No command reads the clock.
+/// that is generated from the number N, and read nothing. The last moment that the clock gave stays the last one.
 ///
 /// Grows with the input, with what is written, and with the states times their depth; a step of a run grows with the
 /// states times their depth and with the transitions; `split` and the start of `play` grow with the states and with the

@@ -132,6 +132,9 @@ fn past_the_ends(rt: HostRuntime) -> Result<(), Fail> {
         let bytes = bytes_of(&rt, text)?;
         assert!(rt; answers(&rt, &bytes, &Answer::BadAt(at)), "{text}");
     }
+    // A list that breaks off, though no state that could follow is greater.
+    let bytes = bytes_of(&rt, "55 00 00000001 0002 01ff")?;
+    assert!(rt; answers(&rt, &bytes, &Answer::TooShort), "breaks off");
     Ok(())
 }
 

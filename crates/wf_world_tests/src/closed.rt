@@ -2,7 +2,7 @@
 use crate::plays::{chart_two, world_after_play};
 use std::test::Fail;
 use wf_disk::MemDisk;
-use wf_model::UnitId;
+use wf_model::{List, UnitId};
 use wf_ortho::orthogonalise;
 use wf_partition::part_of;
 use wf_parts::Part;
@@ -26,15 +26,20 @@ fn counts_on(rt: &HostRuntime, unit: u32, disk: MemDisk) -> Result<(u64, u32), F
     }
 }
 
-#[test]
-fn disks_hold_the_histories(rt: HostRuntime) -> Result<(), Fail> {
-    let disks = world_after_play(&rt)?.close()?;
-    let wanted = [(1, 3), (0, 2)];
-    assert!(rt; disks.len() == 2);
+// The same of each unit's disk, in order.
+fn all_counts(rt: &HostRuntime, disks: List<MemDisk>) -> Result<Vec<(u64, u32)>, Fail> {
+    let mut counts = Vec::new(rt.alloc());
     let mut unit = 0;
     for disk in disks.into_vec() {
-        assert!(rt; wanted.get(unit as usize) == Some(&counts_on(&rt, unit, disk)?));
+        counts.push(counts_on(rt, unit, disk)?)?;
         unit += 1;
     }
+    Ok(counts)
+}
+
+#[test]
+fn disks_hold_the_histories(rt: HostRuntime) -> Result<(), Fail> {
+    let counts = all_counts(&rt, world_after_play(&rt)?.close()?)?;
+    assert!(rt; counts.as_slice() == [(1, 3), (0, 2)].as_slice());
     Ok(())
 }

@@ -21,6 +21,7 @@ use Rattle.wf_slot.specs.declared.slot.writing.AdmitEnd.{AdmitEnd}
 use Rattle.wf_slot.specs.declared.slot.writing.AdmitEnd.TheVariants as admit
 use Rattle.wf_slot.specs.declared.slot.stepping.TurnEnd.{TurnEnd}
 use Rattle.wf_slot.specs.declared.slot.stepping.TurnEnd.TheVariants as turn
+use Rattle.wf_slot.specs.Fuses.{fuse_of}
 use Rattle.wf_slot.specs.Slots.{SlotState, server, absent}
 use Rattle.wf_slot.specs.Answers.{Goes, AdmitWrites, TurnWrites, IsLetIn}
 use Rattle.wf_slot.specs.Seats.{doubt_of, state_of, IsSlot}
@@ -31,8 +32,9 @@ use Rattle.wf_slot.proofs.Ups.{inputs_up, admit_answer, admit_writes, admit_goes
 pub up_not_down : (node : Server Held) (remains : Remains) → ◌≡◌ {A = Seat} (Up node) (Down remains) → ⊥
 up_not_down node remains e = cc
 
-some_not_none : (hit : Kept) → ◌≡◌ {A = Option Kept} (Some hit) None → ⊥
-some_not_none hit e = cc
+-- an arm that is set
+some_fuse : (hit : Kept) → fuse_of (Some hit) ≡ None → ⊥
+some_fuse hit e = cc
 
 pub up_not_away : (node : Server Held) → ◌≡◌ {A = Seat} (Up node) Away → ⊥
 up_not_away node e = cc
@@ -123,8 +125,8 @@ module _ (seat : Seat) (fuse : Option Kept) (doubt : Option Doubt) (now : SlotSt
 
       armed : now.fuse ≡ None → ⊥
       armed none =
-          let same_fuse : now.fuse ≡ fuse = sym (ap (λ (s : SlotState). s.fuse) view) ∙ ap (λ (s : Seat). (state_of s fuse doubt).fuse) is in
-          some_not_none hit (sym broke_off.3 ∙ sym same_fuse ∙ none)
+          let same_fuse : now.fuse ≡ fuse_of fuse = sym (ap (λ (s : SlotState). s.fuse) view) ∙ ap (λ (s : Seat). (state_of s fuse doubt).fuse) is in
+          some_fuse hit (ap fuse_of (sym broke_off.3) ∙ sym same_fuse ∙ none)
 
       in_doubt : doubt_of d ≡ doubt_at hit.left (Turns updates)
       in_doubt = d_is ∙ ap (λ (us : List Update). doubt_at hit.left (Turns us)) (copies_are armed ∙ inputs_up seat fuse doubt now view kept works node is)

@@ -1,5 +1,6 @@
 //! What a world lends.
 use crate::plays::world_after_play;
+use std::process::Abort;
 use std::test::Fail;
 use wf_model::UnitId;
 use wf_world::World;
@@ -14,7 +15,7 @@ const TOLD: [u8; 21] = [
     0, 1, 0, 0, 1,
 ];
 
-fn lends_messages(rt: &HostRuntime, world: &World) -> Result<(), Fail> {
+fn lends_messages(rt: &impl Abort, world: &World) -> Result<(), Fail> {
     let messages = world.messages();
     assert!(rt; messages.len() == SENT.len());
     for (message, (sender, receiver, step)) in messages.iter().zip(&SENT) {
@@ -27,7 +28,7 @@ fn lends_messages(rt: &HostRuntime, world: &World) -> Result<(), Fail> {
     Ok(())
 }
 
-fn lends_histories(rt: &HostRuntime, world: &World) -> Result<(), Fail> {
+fn lends_histories(rt: &impl Abort, world: &World) -> Result<(), Fail> {
     for (unit, admissions, turns) in [(0, 1, 3), (1, 0, 2)] {
         let history = world.history(UnitId(unit)).ok_or("no unit")?;
         assert!(rt; history.admissions().len() == admissions);
@@ -38,7 +39,7 @@ fn lends_histories(rt: &HostRuntime, world: &World) -> Result<(), Fail> {
     Ok(())
 }
 
-fn lends_all(rt: &HostRuntime, world: &World) -> Result<(), Fail> {
+fn lends_all(rt: &impl Abort, world: &World) -> Result<(), Fail> {
     lends_messages(rt, world)?;
     lends_histories(rt, world)
 }

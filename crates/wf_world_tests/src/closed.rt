@@ -32,7 +32,7 @@ fn all_counts(rt: &HostRuntime, disks: List<MemDisk>) -> Result<Vec<(u64, u32)>,
     let mut unit = 0;
     for disk in disks.into_vec() {
         counts.push(counts_on(rt, unit, disk)?)?;
-        unit += 1;
+        unit = unit.saturating_add(1);
     }
     Ok(counts)
 }

@@ -1,4 +1,4 @@
-"""only2.py TOP RLIBS CRATE WORD..: checks functions of a crate over built crates below (RLIBS/NAME.rlib), and over the sources of those that aren't built. It proves nothing of the lower crates."""
+"""only2.py TOP RLIBS CRATE [--test] [--holes] WORD..: checks functions of a crate over built crates below (RLIBS/NAME.rlib), and over the sources of those that aren't built. It proves nothing of the lower crates."""
 import re, subprocess, sys, os
 top, rlibs, crate, words = sys.argv[1], sys.argv[2], sys.argv[3], sys.argv[4:]
 deps={}
@@ -26,8 +26,9 @@ for n in need:
 inc='/tmp/top-incremental-'+crate
 args+=['--antt-project',R+'/rattle/logic/antt-project.json','--logic-built',R+'/logic_built','--links',crate+'=','--jobs','1','--incremental',inc]
 holes = '--holes' in words
+if '--test' in words: args+=['--test']
 for w in words:
-    if w!='--holes': args+=['--only',w]
+    if w not in ('--holes','--test'): args+=['--only',w]
 if holes: args+=['--allow-holes']
 os.makedirs(inc,exist_ok=True)
 os.chdir(f'{top}/crates/{crate}')

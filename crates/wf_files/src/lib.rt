@@ -4,7 +4,7 @@
 //!   short, and goes on after a piece until all is written or read, each piece at its place. `DirShelf`
 //!   hands out no disk twice at once, and none of a name that may not stand in a chart.
 //! - Doesn't say: what a file of the system holds, before or after a crash.
-//! - A caller: none; no command takes a shelf yet.
+//! - A caller: `main` of the crate `mentor`, for the command `trail`.
 //! - A change of what is asked of a file begins at the trait `ByteFile`.
 #![tactic(auto)]
 

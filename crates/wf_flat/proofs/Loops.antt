@@ -1,11 +1,14 @@
 -- Loops over the transitions of a part, one transition more.
-use Rattle.std.proofs.Common.{◌≡◌, ℕ, ◌+◌, ◌<◌, ◌≤◌, ◌==◌, ◌&&◌, not, Bool, true, false, cond, List, [], ◌∷◌, ◌++◌, length, map, take, filter, find, get_or, unwrap_or, Option, Some, None, refl, sym, ◌∙◌, ap, ap₂}
+use Rattle.std.proofs.Common.{◌≡◌, ℕ, ◌+◌, ◌<◌, ◌≤◌, ◌==◌, ◌&&◌, not, Bool, true, false, cond, List, [], ◌∷◌, ◌++◌, length, map, take, filter, find, get_or, unwrap_or, Option, Some, None, refl, sym, ◌∙◌, ap, ap₂, arith, eqb-true}
 use Rattle.std.specs.Option.{option_map, option_map_or}
 use Rattle.std.specs.List.{list_any, range_with_len}
 use Rattle.std.proofs.lemmas.List.{map_more, take_all, get_or-map, append-nil, map-append}
 use Rattle.std.proofs.lemmas.List.Elements.{filter-append}
 use Rattle.wf_model.proofs.Rows.{range_more}
 use Rattle.wf_model.specs.Bits.{bit}
+use Rattle.wf_model.specs.Limits.{max_events}
+use Rattle.wf_model.specs.Ids.{event_id}
+use Rattle.wf_model.specs.declared.ids.EventId.{EventId}
 use Rattle.wf_parts.specs.declared.data.PartTransition.{PartTransition}
 use Rattle.wf_parts.specs.declared.data.PartData.{PartData}
 use Rattle.wf_semantics.specs.Snapshot.{Snapshot}
@@ -13,6 +16,7 @@ use Rattle.wf_views.specs.OwnSteps.{is_ready_in, is_fired_in}
 use Rattle.wf_updates.specs.Tables.{entry, given_by}
 use Rattle.wf_updates.proofs.Pairs.{given_map}
 use Rattle.wf_flat.specs.Firing.{holds, says_of}
+use Rattle.wf_flat.specs.Gathering.{ascending}
 
 pub map_step : {A B : Type 0} (h : A → B) (xs : List A) (i : ℕ) (x : A) (y : B) (old new : List B) → i < length xs → x ≡ get_or xs i x → y ≡ h x → old ≡ map h (take i xs) → new ≡ old ++ y ∷ []
     → new ≡ map h (take (i + 1) xs)
@@ -64,3 +68,12 @@ fired_by_place part snap lent enabled flags same told are =
     are
     ∙ ap (λ (f : ℕ → Bool). map (λ (trans : PartTransition). is_ready_in snap trans && not (list_any (λ b. f b.0) trans.blockers)) lent)
     (told ∙ ap (says_of (is_ready_in snap)) same)
+
+-- no event is raised
+none_kept : (ns : List ℕ) → filter (λ n. false) ns ≡ []
+none_kept [] = refl
+none_kept (n ∷ ns) = none_kept ns
+
+pub none_ascending : (raised : List EventId) → (length raised == 0) ≡ true → [] ≡ ascending raised
+none_ascending [] e = sym (ap (map event_id) (none_kept (range_with_len 0 max_events)))
+none_ascending (r ∷ rs) e = let zero : length (r ∷ rs) ≡ 0 = eqb-true (length (r ∷ rs)) 0 e in absurd (omega (arith, zero))

@@ -121,10 +121,13 @@ impl Gathered {
     }
 }
 
-/// These events, each once, ascending. In linear time in them and in the greatest of their numbers.
+/// These events, each once, ascending. In linear time in them and in how many events a chart may have, if there are any.
 pub fn ascending_events(alloc: Global, raised: &[EventId]) -> Result<List<EventId>, NoMemory>
     ensures { IfOk result (λ events. events ≡ ascending raised.now) }
 {
+    if raised.is_empty() {
+        return Ok(List::new(alloc));
+    }
     let set = event_set(alloc, raised)?;
     let mut events = List::new(alloc);
     for e in 0..MAX_EVENTS {

@@ -1,21 +1,21 @@
 //! The parts' run beside the central run.
-ghost use Rattle.std.specs.Prelude.{◌≡◌, ◌*◌, length, nat_le, IsTrue};
+ghost use Rattle.std.specs.Prelude.{◌≡◌, ◌*◌, length, nat_le, IsTrue, IfOk};
 ghost use Rattle.std.specs.List.{list_all};
 ghost use Rattle.wf_model.specs.Limits.{max_transitions, max_actions};
 ghost use Rattle.wf_central.specs.Kept.{IsOf};
 ghost use Rattle.wf_flat.specs.Locking.{HasRoomFor};
 
-use crate::charts::{ORDER, THREE, TWO, WRI};
-use crate::runs::{SharedRun, shared_run, step_if_run};
+use crate::runs::step_if_run;
 use crate::told::{append_head, append_raised, append_value, append_word};
 use std::alloc::Global;
+use std::process::Abort;
 use std::test::Fail;
 use wf_central::CentralState;
 use wf_flat::{lockstep, own_step};
 use wf_model::limits::{MAX_STEPS, MAX_UNITS, MAX_VARS};
 use wf_model::{
-    ActId, Bytes, Chart, Duplicate, Entry, EventId, List, NoMemory, Outer, Output, Same, StartAt,
-    StateId, StepNotes, TransId, Update, VarId,
+    ActId, Bytes, Chart, Checked, Duplicate, Entry, EventId, List, NoMemory, Outer, Output, Same,
+    StartAt, StateId, StepNotes, TransId, Update, VarId,
 };
 use wf_ortho::append_transitions;
 use wf_parts::{Part, PartData};
@@ -50,10 +50,16 @@ fn has_room(view: &View, updates: &[Update]) -> bool
     updates.len() <= MAX_UNITS && have_few_starts(updates) && has_few_open(view)
 }
 
+fn push_first(alloc: Global, part: &Part, views: &mut Vec<View>) -> Result<(), NoMemory> {
+    let view = View::first(alloc, part)?;
+    views.push(view)?;
+    Ok(())
+}
+
 fn first_views(alloc: Global, parts: &[Part]) -> Result<Vec<View>, NoMemory> {
     let mut views = Vec::new(alloc);
     for part in parts {
-        views.push(View::first(alloc, part)?)?;
+        push_first(alloc, part, &mut views)?;
     }
     Ok(views)
 }
@@ -133,6 +139,36 @@ fn raised_in(
     Ok(raised)
 }
 
+fn shows_states(
+    alloc: Global,
+    part: &PartData,
+    view: &View,
+    state: &CentralState,
+) -> Result<bool, NoMemory> {
+    let inside = states_in(alloc, part, state)?;
+    Ok(inside.as_slice() == view.states())
+}
+
+fn shows_values(
+    alloc: Global,
+    part: &PartData,
+    view: &View,
+    state: &CentralState,
+) -> Result<bool, NoMemory> {
+    let values = values_of(alloc, part, state)?;
+    Ok(values.as_slice() == view.vars())
+}
+
+fn shows_raised(
+    alloc: Global,
+    part: &PartData,
+    view: &View,
+    state: &CentralState,
+) -> Result<bool, NoMemory> {
+    let raised = raised_in(alloc, part, state)?;
+    Ok(raised.as_slice() == view.raised())
+}
+
 // Whether the view has of the central state what its unit knows.
 fn shows(
     alloc: Global,
@@ -141,9 +177,9 @@ fn shows(
     state: &CentralState,
 ) -> Result<bool, NoMemory> {
     Ok(
-        states_in(alloc, part, state)?.as_slice() == view.states()
-            && values_of(alloc, part, state)?.as_slice() == view.vars()
-            && raised_in(alloc, part, state)?.as_slice() == view.raised(),
+        shows_states(alloc, part, view, state)?
+            && shows_values(alloc, part, view, state)?
+            && shows_raised(alloc, part, view, state)?,
     )
 }
 
@@ -170,15 +206,20 @@ fn fired_in(alloc: Global, updates: &[Update]) -> Result<List<TransId>, NoMemory
     Ok(fired)
 }
 
+// Whether each that fired is told, and no more are told.
+fn are_told(fired: &[TransId], told: &[TransId]) -> bool {
+    for trans in fired {
+        if !told.contains(trans) {
+            return false;
+        }
+    }
+    told.len() == fired.len()
+}
+
 // Whether the units tell of just the transitions that fired, each once.
 fn tell_fired(alloc: Global, fired: &[TransId], updates: &[Update]) -> Result<bool, NoMemory> {
     let told = fired_in(alloc, updates)?;
-    for trans in fired {
-        if !told.as_slice().contains(trans) {
-            return Ok(false);
-        }
-    }
-    Ok(told.len() == fired.len())
+    Ok(are_told(fired, told.as_slice()))
 }
 
 // The starts that the units tell of.
@@ -190,6 +231,16 @@ fn starts_in(alloc: Global, updates: &[Update]) -> Result<List<StartAt>, NoMemor
     Ok(starts)
 }
 
+// Whether these starts are told, in this order, and no more.
+fn are_started(starts: &[(ActId, u32)], told: &[StartAt]) -> bool {
+    for (start, told) in starts.iter().zip(told) {
+        if start.0 != told.act {
+            return false;
+        }
+    }
+    told.len() == starts.len()
+}
+
 // Whether the units tell of these starts, in this order.
 fn tell_starts(
     alloc: Global,
@@ -197,12 +248,7 @@ fn tell_starts(
     updates: &[Update],
 ) -> Result<bool, NoMemory> {
     let told = starts_in(alloc, updates)?;
-    for (start, told) in starts.iter().zip(told.as_slice()) {
-        if start.0 != told.act {
-            return Ok(false);
-        }
-    }
-    Ok(told.len() == starts.len())
+    Ok(are_started(starts, told.as_slice()))
 }
 
 fn append_notes(
@@ -251,11 +297,22 @@ fn append_line(
     text.append(ending)
 }
 
-// The central run beside the views of all units.
+// The central run beside the views of all units, and the lines of its steps.
 #[derive(Drop)]
 struct Sides {
     state: CentralState,
     views: Vec<View>,
+    text: Bytes,
+}
+
+// Both sides before the first step.
+fn first_sides(alloc: Global, checked: &Checked, parts: &[Part]) -> Result<Sides, NoMemory>
+    ensures { IfOk result (λ sides. IsOf checked.now sides.state) }
+{
+    let state = CentralState::first(alloc, checked)?;
+    let views = first_views(alloc, parts)?;
+    let text = List::new(alloc);
+    Ok(Sides { state, views, text })
 }
 
 // Takes in a step's updates. False if the units don't say of it what the central run says, or their views don't show its state.
@@ -276,63 +333,104 @@ fn units_agree(
     )
 }
 
+// Appends the line of a step that the central run took, which says so if the units differ.
+fn append_taken(
+    alloc: Global,
+    checked: &Checked,
+    parts: &[Part],
+    sides: &mut Sides,
+    notes: &StepNotes,
+    updates: &[Update],
+) -> Result<bool, NoMemory>
+    ensures { sides.new.state ≡ sides.old.state }
+{
+    let are_same = units_agree(alloc, parts, sides, notes, updates)?;
+    append_line(
+        alloc,
+        &mut sides.text,
+        checked.chart(),
+        notes,
+        &sides.state,
+        are_same,
+    )?;
+    Ok(true)
+}
+
 // Takes a step and appends its line. False if the entries may not come in it.
 fn append_step(
     alloc: Global,
-    text: &mut Bytes,
-    run: &SharedRun,
+    checked: &Checked,
+    parts: &[Part],
     sides: &mut Sides,
     entries: &[Entry],
     updates: &[Update],
 ) -> Result<bool, NoMemory>
-    requires { IsOf run.now.checked sides.old.state }
-    ensures { IsOf run.now.checked sides.new.state }
+    requires { IsOf checked.now sides.old.state }
+    ensures { IsOf checked.now sides.new.state }
 {
-    match step_if_run(alloc, &run.checked, &mut sides.state, entries)? {
+    match step_if_run(alloc, checked, &mut sides.state, entries)? {
         None => Ok(false),
-        Some(notes) => {
-            let are_same = units_agree(alloc, run.parts.as_slice(), sides, &notes, updates)?;
-            append_line(
-                alloc,
-                text,
-                run.checked.chart(),
-                &notes,
-                &sides.state,
-                are_same,
-            )?;
-            Ok(true)
-        }
+        Some(notes) => append_taken(alloc, checked, parts, sides, &notes, updates),
     }
 }
 
-// The lines of the central run, or none if the entries aren't a run. Each says so if the units differ.
-fn central_lines(alloc: Global, run: &SharedRun) -> Result<Option<Bytes>, NoMemory> {
-    let mut text = List::new(alloc);
-    let state = CentralState::first(alloc, &run.checked)?;
-    let views = first_views(alloc, run.parts.as_slice())?;
-    let mut sides = Sides { state, views };
-    for (entries, updates) in run.outer.as_slice().iter().zip(run.steps.as_slice()) {
+// Takes all steps and appends their lines. False if the entries aren't a run.
+fn append_steps(
+    alloc: Global,
+    checked: &Checked,
+    parts: &[Part],
+    sides: &mut Sides,
+    outer: &[List<Entry>],
+    steps: &[List<Update>],
+) -> Result<bool, NoMemory>
+    requires { IsOf checked.now sides.old.state }
+{
+    for (entries, updates) in outer.iter().zip(steps) {
         if !append_step(
             alloc,
-            &mut text,
-            run,
-            &mut sides,
+            checked,
+            parts,
+            sides,
             entries.as_slice(),
             updates.as_slice(),
         )? {
-            return Ok(None);
+            return Ok(false);
         }
     }
-    Ok(Some(text))
+    Ok(true)
+}
+
+// Checks the lines of the central run, from both sides before the first step.
+fn check_lines(
+    rt: &impl Abort, alloc: Global,
+    checked: &Checked,
+    parts: &[Part],
+    sides: &mut Sides,
+    outer: &[List<Entry>],
+    steps: &[List<Update>],
+    wanted: &str,
+) -> Result<(), Fail>
+    requires { IsOf checked.now sides.old.state }
+{
+    if !append_steps(alloc, checked, parts, sides, outer, steps)? {
+        Err("no run")?;
+    }
+    assert_eq!(rt; sides.text.as_slice(), wanted.as_bytes(), "lines: {wanted}");
+    Ok(())
 }
 
 // Whether the units' shares are what their parts do side by side.
-fn are_locked(alloc: Global, run: &SharedRun) -> Result<bool, NoMemory> {
-    if run.parts.len() > MAX_UNITS || run.outer.len() > MAX_STEPS as usize {
+fn are_locked(
+    alloc: Global,
+    parts: &[Part],
+    outer: &[List<Entry>],
+    steps: &List<List<Update>>,
+) -> Result<bool, NoMemory> {
+    if parts.len() > MAX_UNITS || outer.len() > MAX_STEPS as usize {
         return Ok(false);
     }
-    let locked = lockstep(alloc, run.parts.as_slice(), run.outer.as_slice())?;
-    Ok(run.steps.is_same(&locked))
+    let locked = lockstep(alloc, parts, outer)?;
+    Ok(steps.is_same(&locked))
 }
 
 // The update that a unit makes of its first view.
@@ -341,110 +439,60 @@ fn first_update(alloc: Global, part: &Part, outers: List<Outer>) -> Result<Updat
     own_step(alloc, part, &view, 1, outers)
 }
 
+// Whether the unit makes this first update by its part alone.
+fn begins_so(alloc: Global, part: &Part, update: &Update) -> Result<bool, NoMemory> {
+    let own = first_update(alloc, part, update.outer.copy(alloc)?)?;
+    Ok(own.is_same(update))
+}
+
 // Whether each unit makes its first update by its part alone.
 fn begin_so(alloc: Global, parts: &[Part], updates: &[Update]) -> Result<bool, NoMemory> {
     for (part, update) in parts.iter().zip(updates) {
-        let own = first_update(alloc, part, update.outer.copy(alloc)?)?;
-        if !own.is_same(update) {
+        if !begins_so(alloc, part, update)? {
             return Ok(false);
         }
     }
     Ok(true)
 }
 
-// The lines of a run, in which the units' shares are what their parts do side by side.
-fn lines_if_locked(alloc: Global, run: &SharedRun) -> Result<Bytes, Fail> {
-    if !are_locked(alloc, run)? {
-        Err("the shares differ")?;
-    }
-    let first = run.steps.get(0).ok_or("no step")?;
-    if !begin_so(alloc, run.parts.as_slice(), first.as_slice())? {
-        Err("the first steps differ")?;
-    }
-    Ok(central_lines(alloc, run)?.ok_or("no run")?)
-}
-
-fn run_told(alloc: Global, chart: &str, script: &str) -> Result<Bytes, Fail> {
-    let run = shared_run(alloc, chart, script)?;
-    lines_if_locked(alloc, &run)
-}
-
-// The chart, its script, and the lines of its run.
-const RUNS: [(&str, &str, &str); 7] = [
-    // three units write one variable; an event that one peer alone knows
-    (
-        THREE,
-        "step\nouter a event e\nstep\nstep\nstep\nstep",
-        "1 x=9223372036854775807 y=0
-2 fired t0 t1 t2 x=9223372036854775807 y=3
-3 fired t9 raised i x=9223372036854775807 y=3
-4 fired t10 x=9223372036854775807 y=13
-5 x=9223372036854775807 y=13
-",
-    ),
-    // two units raise a fault
-    (
-        THREE,
-        "step\nouter b event f\nstep\nstep\nstep",
-        "1 x=9223372036854775807 y=0
-2 fired t3 t4 raised fault x=9223372036854775807 y=0
-3 fired t5 t9 raised i x=9223372036854775807 y=-1
-4 fired t10 x=9223372036854775807 y=9
-",
-    ),
-    // two units leave one state, and a third moves in it
-    (
-        THREE,
-        "step\nouter c event g\nstep\nouter a event e\nstep",
-        "1 x=9223372036854775807 y=0
-2 fired t6 x=9223372036854775807 y=0
-3 x=9223372036854775807 y=0
-",
-    ),
-    // the same, where each could move by another event
-    (
-        THREE,
-        "step\nouter a event e\nouter c event g\nstep\nstep",
-        "1 x=9223372036854775807 y=0
-2 fired t6 x=9223372036854775807 y=0
-3 x=9223372036854775807 y=0
-",
-    ),
-    // an item is completed in the step after its start
-    (
-        WRI,
-        "step\nouter a done job 1 gives x = 9\nouter b event e\nstep\nstep",
-        "1 fired t0 starts job#1 x=0
-2 fired t1 t2 x=11
-3 x=11
-",
-    ),
-    (
-        ORDER,
-        "step\nouter sales event placed\nstep\nouter credit done judge 1 gives good = true\nstep\nstep\nouter stock done pack 1\nstep\nstep",
-        "1 amount=0 good=false
-2 fired t0 starts judge#1 amount=250 good=false
-3 fired t1 raised ready amount=250 good=true
-4 fired t3 starts pack#1 amount=250 good=true
-5 fired t4 amount=250 good=true
-6 fired t5 amount=250 good=true
-",
-    ),
-    (
-        TWO,
-        "step\nouter a event go\nstep\nouter a event go\nstep",
-        "1
-2 fired t0
-3
-",
-    ),
-];
-
-#[test]
-fn units_and_the_central_run(rt: HostRuntime) -> Result<(), Fail> {
-    for (chart, script, wanted) in RUNS {
-        let found = run_told(rt.alloc(), chart, script)?;
-        assert_eq!(rt; found.as_slice(), wanted.as_bytes());
-    }
+// Checks that the units' shares are what their parts do side by side, and their first ones what each part does alone.
+fn check_shares(
+    rt: &impl Abort, alloc: Global,
+    parts: &[Part],
+    outer: &[List<Entry>],
+    steps: &List<List<Update>>,
+) -> Result<(), Fail> {
+    assert!(rt;
+        are_locked(alloc, parts, outer, steps)?,
+        "the shares differ"
+    );
+    let first = steps.get(0).ok_or("no step")?;
+    assert!(rt;
+        begin_so(alloc, parts, first.as_slice())?,
+        "the first steps differ"
+    );
     Ok(())
+}
+
+/// Checks that the units' shares are what their parts do side by side, and that the central run has
+/// these lines. A line says so if the units differ.
+pub fn check_central(
+    rt: &impl Abort, alloc: Global,
+    checked: &Checked,
+    parts: &[Part],
+    outer: &[List<Entry>],
+    steps: &List<List<Update>>,
+    wanted: &str,
+) -> Result<(), Fail> {
+    check_shares(rt, alloc, parts, outer, steps)?;
+    let mut sides = first_sides(alloc, checked, parts)?;
+    check_lines(
+        rt, alloc,
+        checked,
+        parts,
+        &mut sides,
+        outer,
+        steps.as_slice(),
+        wanted,
+    )
 }

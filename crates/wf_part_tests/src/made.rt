@@ -37,20 +37,40 @@ pub fn parts_of(alloc: Global, checked: &Checked, flat: &Flat) -> Result<Vec<Par
     Ok(parts)
 }
 
+// Takes a line in: what comes from outside joins the entries, and a step makes a list of them.
+fn take_line(
+    alloc: Global,
+    lists: &mut List<List<Entry>>,
+    entries: &mut List<Entry>,
+    line: &CentralLine,
+) -> Result<(), NoMemory> {
+    match line {
+        CentralLine::Outer { unit, outer } => entries.push(Entry {
+            unit: *unit,
+            outer: outer.copy(alloc)?,
+        }),
+        CentralLine::Step => lists.push(std::mem::replace(entries, List::new(alloc))),
+        CentralLine::Show => Ok(()),
+    }
+}
+
+fn take_lines(
+    alloc: Global,
+    lists: &mut List<List<Entry>>,
+    entries: &mut List<Entry>,
+    lines: &[(u32, CentralLine)],
+) -> Result<(), NoMemory> {
+    for (_, line) in lines {
+        take_line(alloc, lists, entries, line)?;
+    }
+    Ok(())
+}
+
 // The entries of each step.
-fn lists_of(alloc: Global, lines: &[(u32, CentralLine)]) -> Result<List<List<Entry>>, NoMemory> {
+fn lists_of(alloc: Global, lines: &[(u32, CentralLine)]) -> Result<List<List<Entry>>, Fail> {
     let mut lists = List::new(alloc);
     let mut entries = List::new(alloc);
-    for (_, line) in lines {
-        match line {
-            CentralLine::Outer { unit, outer } => entries.push(Entry {
-                unit: *unit,
-                outer: outer.copy(alloc)?,
-            })?,
-            CentralLine::Step => lists.push(std::mem::replace(&mut entries, List::new(alloc)))?,
-            CentralLine::Show => {}
-        }
-    }
+    take_lines(alloc, &mut lists, &mut entries, lines)?;
     Ok(lists)
 }
 
@@ -63,5 +83,5 @@ pub fn outer_of(alloc: Global, checked: &Checked, script: &str) -> Result<List<L
     let lines = read_central(alloc, checked, script)
         .ok()
         .ok_or("no script")?;
-    Ok(lists_of(alloc, lines.as_slice())?)
+    lists_of(alloc, lines.as_slice())
 }

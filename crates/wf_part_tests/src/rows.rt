@@ -1,21 +1,7 @@
-//! What each unit contributes to each step, and what each peer is sent of it.
-use crate::charts::{ORDER, REG};
-use crate::runs::shared_run;
-use crate::told::told_lines;
-use std::alloc::Global;
+//! What is to be seen in each run.
+use crate::charts::{ORDER, REG, THREE, TWO, WRI};
+use crate::tries::{Wanted, check_run};
 use std::test::Fail;
-use wf_model::Bytes;
-
-/// The lines of the shares of a run.
-fn shares_told(alloc: Global, chart: &str, script: &str) -> Result<Bytes, Fail> {
-    let run = shared_run(alloc, chart, script)?;
-    Ok(told_lines(
-        alloc,
-        run.checked.chart(),
-        run.parts.as_slice(),
-        run.steps.as_slice(),
-    )?)
-}
 
 const REG_TOLD: &str = "a 1 outer e
 a 2 flips B1 B2 fired t0 outer f
@@ -78,23 +64,110 @@ stock 6 flips Goods Packed
 > credit: stock 6 flips Packed
 ";
 
+// The chart, its script, and what is to be seen in its run.
+const RUNS: [(&str, &str, Wanted); 10] = [
+    // three units write one variable; an event that one peer alone knows
+    (
+        THREE,
+        "step\nouter a event e\nstep\nstep\nstep\nstep",
+        Wanted::Central(
+            "1 x=9223372036854775807 y=0
+2 fired t0 t1 t2 x=9223372036854775807 y=3
+3 fired t9 raised i x=9223372036854775807 y=3
+4 fired t10 x=9223372036854775807 y=13
+5 x=9223372036854775807 y=13
+",
+        ),
+    ),
+    // two units raise a fault
+    (
+        THREE,
+        "step\nouter b event f\nstep\nstep\nstep",
+        Wanted::Central(
+            "1 x=9223372036854775807 y=0
+2 fired t3 t4 raised fault x=9223372036854775807 y=0
+3 fired t5 t9 raised i x=9223372036854775807 y=-1
+4 fired t10 x=9223372036854775807 y=9
+",
+        ),
+    ),
+    // two units leave one state, and a third moves in it
+    (
+        THREE,
+        "step\nouter c event g\nstep\nouter a event e\nstep",
+        Wanted::Central(
+            "1 x=9223372036854775807 y=0
+2 fired t6 x=9223372036854775807 y=0
+3 x=9223372036854775807 y=0
+",
+        ),
+    ),
+    // the same, where each could move by another event
+    (
+        THREE,
+        "step\nouter a event e\nouter c event g\nstep\nstep",
+        Wanted::Central(
+            "1 x=9223372036854775807 y=0
+2 fired t6 x=9223372036854775807 y=0
+3 x=9223372036854775807 y=0
+",
+        ),
+    ),
+    // an item is completed in the step after its start
+    (
+        WRI,
+        "step\nouter a done job 1 gives x = 9\nouter b event e\nstep\nstep",
+        Wanted::Central(
+            "1 fired t0 starts job#1 x=0
+2 fired t1 t2 x=11
+3 x=11
+",
+        ),
+    ),
+    (
+        ORDER,
+        "step\nouter sales event placed\nstep\nouter credit done judge 1 gives good = true\nstep\nstep\nouter stock done pack 1\nstep\nstep",
+        Wanted::Central(
+            "1 amount=0 good=false
+2 fired t0 starts judge#1 amount=250 good=false
+3 fired t1 raised ready amount=250 good=true
+4 fired t3 starts pack#1 amount=250 good=true
+5 fired t4 amount=250 good=true
+6 fired t5 amount=250 good=true
+",
+        ),
+    ),
+    (
+        TWO,
+        "step\nouter a event go\nstep\nouter a event go\nstep",
+        Wanted::Central(
+            "1
+2 fired t0
+3
+",
+        ),
+    ),
+    (
+        REG,
+        "step\nouter a event e\nstep\nouter a event f\nstep",
+        Wanted::Told(REG_TOLD),
+    ),
+    (
+        ORDER,
+        "step\nouter sales event placed\nstep\nouter credit done judge 1 gives good = true\nstep\nstep\nouter stock done pack 1\nstep\nstep",
+        Wanted::Told(ORDER_TOLD),
+    ),
+    (
+        WRI,
+        "step\nouter a done job 1 gives x = 9\nouter b event e\nstep",
+        Wanted::View,
+    ),
+];
+
 #[test]
-fn shares_and_letters(rt: HostRuntime) -> Result<(), Fail> {
-    let rows = [
-        (
-            REG,
-            "step\nouter a event e\nstep\nouter a event f\nstep",
-            REG_TOLD,
-        ),
-        (
-            ORDER,
-            "step\nouter sales event placed\nstep\nouter credit done judge 1 gives good = true\nstep\nstep\nouter stock done pack 1\nstep\nstep",
-            ORDER_TOLD,
-        ),
-    ];
-    for (chart, script, wanted) in rows {
-        let found = shares_told(rt.alloc(), chart, script)?;
-        assert_eq!(rt; found.as_slice(), wanted.as_bytes());
+fn runs_of_charts(rt: HostRuntime) -> Result<(), Fail> {
+    for (chart, script, wanted) in RUNS {
+        check_run(&rt, rt.alloc(), chart, script, wanted)?;
     }
     Ok(())
 }

@@ -10,7 +10,7 @@ ghost use Rattle.wf_lockstep.specs.Shares.{entries_at};
 ghost use Rattle.wf_lockstep.specs.Ordered.{rises};
 ghost use Rattle.wf_part_tests.specs.Runs.{IsSharedRun};
 
-use crate::made::{checked_of, outer_of, parts_of};
+use crate::made::parts_of;
 use std::alloc::Global;
 use std::test::Fail;
 use wf_central::CentralState;
@@ -115,32 +115,8 @@ fn is_shared_run(alloc: Global, checked: &Checked, outer: &[List<Entry>]) -> Res
     )
 }
 
-/// What each unit contributes to each step, or none if the lists are no such run of the chart.
-pub fn shares_of_run(
-    alloc: Global,
-    checked: &Checked,
-    parts: &[Part],
-    outer: &[List<Entry>],
-) -> Result<Option<List<List<Update>>>, NoMemory>
-    requires { parts.now ≡ map (part_of checked.now) (range_with_len 0 (length checked.now.units)) }
-{
-    if !is_shared_run(alloc, checked, outer)? {
-        return Ok(None);
-    }
-    Ok(Some(shares(alloc, checked, parts, outer)?))
-}
-
-/// A run of a chart, and what each unit contributes to each of its steps.
-#[derive(Drop)]
-pub struct SharedRun {
-    pub checked: Checked,
-    pub parts: Vec<Part>,
-    pub outer: List<List<Entry>>,
-    pub steps: List<List<Update>>,
-}
-
-// What the units contribute to each step of a run of the chart.
-fn shares_of(
+/// What each unit contributes to each step. Refuses lists that are no such run of the chart.
+pub fn shares_of(
     alloc: Global,
     checked: &Checked,
     parts: &[Part],
@@ -148,27 +124,16 @@ fn shares_of(
 ) -> Result<List<List<Update>>, Fail>
     requires { parts.now ≡ map (part_of checked.now) (range_with_len 0 (length checked.now.units)) }
 {
-    Ok(shares_of_run(alloc, checked, parts, outer)?.ok_or("no run")?)
+    if !is_shared_run(alloc, checked, outer)? {
+        Err("no run")?;
+    }
+    Ok(shares(alloc, checked, parts, outer)?)
 }
 
-// The parts of all units of the chart.
-fn parts_in(alloc: Global, checked: &Checked) -> Result<Vec<Part>, NoMemory>
+/// The parts of all units of the chart, in unit order.
+pub fn parts_in(alloc: Global, checked: &Checked) -> Result<Vec<Part>, NoMemory>
     ensures { IfOk result (λ parts. parts.items ≡ map (part_of checked.now) (range_with_len 0 (length checked.now.units))) }
 {
     let flat = orthogonalise(alloc, checked)?;
     parts_of(alloc, checked, &flat)
-}
-
-/// The run that a chart and a script of the central run mean.
-pub fn shared_run(alloc: Global, chart: &str, script: &str) -> Result<SharedRun, Fail> {
-    let checked = checked_of(alloc, chart)?;
-    let parts = parts_in(alloc, &checked)?;
-    let outer = outer_of(alloc, &checked, script)?;
-    let steps = shares_of(alloc, &checked, parts.as_slice(), outer.as_slice())?;
-    Ok(SharedRun {
-        checked,
-        parts,
-        outer,
-        steps,
-    })
 }

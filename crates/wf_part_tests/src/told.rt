@@ -1,7 +1,10 @@
 //! What an update tells, as a line.
 use std::alloc::Global;
+use std::process::Abort;
+use std::test::Fail;
 use wf_model::{
-    Bytes, Chart, EventId, List, NoMemory, Outer, Output, StartAt, StateId, Update, Val, Write,
+    Bytes, Chart, EventId, List, NoMemory, Outer, Output, StartAt, StateId, UnitId, Update, Val,
+    Write,
 };
 use wf_ortho::append_transitions;
 use wf_parts::Part;
@@ -135,6 +138,19 @@ pub fn append_update(
     text.append(b"\n")
 }
 
+// Appends what a peer is sent of an update.
+fn append_letter(
+    alloc: Global,
+    text: &mut Bytes,
+    chart: &Chart,
+    part: &Part,
+    update: &Update,
+    peer: UnitId,
+) -> Result<(), NoMemory> {
+    let letter = relevant(alloc, update, part, peer)?;
+    append_update(alloc, text, chart, &letter)
+}
+
 // Appends what each peer is sent of an update.
 fn append_letters(
     alloc: Global,
@@ -147,8 +163,7 @@ fn append_letters(
         text.append(b"> ")?;
         text.append(unit_name(chart, known.unit))?;
         text.append(b": ")?;
-        let letter = relevant(alloc, update, part, known.unit)?;
-        append_update(alloc, text, chart, &letter)?;
+        append_letter(alloc, text, chart, part, update, known.unit)?;
     }
     Ok(())
 }
@@ -168,16 +183,42 @@ fn append_step(
     Ok(())
 }
 
-/// The lines of all steps: the update of each unit, and below it what each peer is sent of it.
-pub fn told_lines(
+// Appends the lines of all steps.
+fn append_steps(
     alloc: Global,
+    text: &mut Bytes,
     chart: &Chart,
     parts: &[Part],
     steps: &[List<Update>],
-) -> Result<Bytes, NoMemory> {
-    let mut text = List::new(alloc);
+) -> Result<(), NoMemory> {
     for updates in steps {
-        append_step(alloc, &mut text, chart, parts, updates.as_slice())?;
+        append_step(alloc, text, chart, parts, updates.as_slice())?;
     }
-    Ok(text)
+    Ok(())
+}
+
+// Checks the lines of all steps, in an empty text.
+fn check_lines(
+    rt: &impl Abort, alloc: Global,
+    text: &mut Bytes,
+    chart: &Chart,
+    parts: &[Part],
+    steps: &[List<Update>],
+    wanted: &str,
+) -> Result<(), Fail> {
+    append_steps(alloc, text, chart, parts, steps)?;
+    assert_eq!(rt; text.as_slice(), wanted.as_bytes(), "lines: {wanted}");
+    Ok(())
+}
+
+/// Checks the lines of all steps: the update of each unit, and below it what each peer is sent of it.
+pub fn check_told(
+    rt: &impl Abort, alloc: Global,
+    chart: &Chart,
+    parts: &[Part],
+    steps: &[List<Update>],
+    wanted: &str,
+) -> Result<(), Fail> {
+    let mut text = List::new(alloc);
+    check_lines(rt, alloc, &mut text, chart, parts, steps, wanted)
 }

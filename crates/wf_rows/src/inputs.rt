@@ -21,3 +21,9 @@ pub const SIDES_SCRIPT: &str = "---\nouter a event e\nstep\nouter a event f\nste
 
 pub const SIDES_TEXT: &str =
     "1: ok\n2: step 1 fired t0 starts\n3: ok\n4: step 2 fired t1 starts\n5: after 2 in R A B B1 C C2 vars raised\n";
+
+/// Two units.
+pub const TWO: &str = "chart two; unit a; unit b; event go at a;
+or R at a { basic P at a; basic Q at b; }
+from P to Q on go;
+";

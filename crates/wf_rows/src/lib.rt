@@ -1,7 +1,7 @@
-//! Tests: worked inputs over the top call, with ends in memory that fail.
+//! Tests: worked inputs over the top call, with ends and disks in memory that fail.
 //!
-//! - Tries: which bytes a run writes, and with which status it ends, also if a read or a write
-//!   fails.
+//! - Tries: which bytes a run writes, and with which status it ends, also if a read, a write or a
+//!   disk fails; and what is left on the disk then.
 //! - Promises: nothing. No crate depends on it.
 //! - Doesn't try: what the built program writes; `scripts/rows` does.
 //! - A caller: the gate runs its tests.
@@ -14,3 +14,5 @@ mod faults;
 mod inputs;
 #[cfg(test)]
 mod run;
+#[cfg(test)]
+mod trail;

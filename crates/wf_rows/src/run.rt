@@ -4,6 +4,7 @@ ghost use Rattle.std.specs.Prelude.{◌<◌};
 use std::alloc::Global;
 use wf_io::{MemSink, MemSource, ScriptClock};
 use wf_model::{Bytes, List, NoMemory, Status};
+use wf_shelf::MemShelf;
 use wf_top::mentor;
 
 /// The ends of a run: how many bytes each call gives or takes at most, and the reads and writes that fail, counted
@@ -30,8 +31,21 @@ fn words_in(alloc: Global, line: &str) -> Result<List<Bytes>, NoMemory> {
     Ok(words)
 }
 
-/// Runs the words of a line over an input.
+/// Runs the words of a line over an input, with no journal.
 pub fn run(alloc: Global, line: &str, input: Bytes, ends: Ends<'_>) -> Result<Outcome, NoMemory>
+    requires { 0 < ends.piece }
+{
+    run_on(alloc, line, input, ends, &mut MemShelf::new(alloc))
+}
+
+/// The same, with the journals of this shelf.
+pub fn run_on(
+    alloc: Global,
+    line: &str,
+    input: Bytes,
+    ends: Ends<'_>,
+    shelf: &mut MemShelf,
+) -> Result<Outcome, NoMemory>
     requires { 0 < ends.piece }
 {
     let words = words_in(alloc, line)?;
@@ -46,6 +60,7 @@ pub fn run(alloc: Global, line: &str, input: Bytes, ends: Ends<'_>) -> Result<Ou
         &mut MemSource::new(input, ends.piece, failing_reads),
         &mut sink,
         &mut ScriptClock::new(moments),
+        shelf,
     );
     let text = List::from_slice(alloc, sink.bytes())?;
     Ok(Outcome { status, text })

@@ -1,15 +1,18 @@
 -- Tests of lists that an update holds.
-use Rattle.std.proofs.Common.{◌≡◌, ◌∙◌, ap, refl, Bool, true, false, ◌&&◌, List, [], ◌∷◌, ◌++◌, length, ℕ, suc, ◌<◌, ◌≤◌, ◌+◌, sym, ap₂, get_or, take, drop, min, add-one, drop-cons, arith, inl, inr}
-use Rattle.std.specs.List.{list_all, flat_map, range_with_len, insert}
+use Rattle.std.proofs.Common.{◌≡◌, ◌==◌, ◌∙◌, ap, refl, Bool, true, false, ◌&&◌, List, [], ◌∷◌, ◌++◌, length, ℕ, suc, ◌<◌, ◌≤◌, ◌+◌, sym, ap₂, get_or, take, drop, min, add-one, drop-cons, arith, inl, inr}
+use Rattle.std.specs.List.{list_all, filter, flat_map, range_with_len, insert}
 use Rattle.std.proofs.lemmas.List.{drop_all, take_all, append-nil}
 use Rattle.std.proofs.lemmas.Grind.{flat_map-append}
 use Rattle.wf_semantics.proofs.Children.{lt_or_ge}
 use Rattle.wf_worlds.proofs.Growing.{range_push}
 use Rattle.std.proofs.lemmas.List.Folds.{list_all-append}
+use Rattle.wf_model.specs.Limits.{max_transitions}
+use Rattle.wf_model.specs.declared.update.StartAt.{StartAt}
 use Rattle.wf_model.specs.declared.update.Update.{Update}
 use Rattle.wf_parts.specs.declared.data.Known.{Known}
 use Rattle.wf_parts.specs.declared.data.PartData.{PartData}
 use Rattle.wf_steps.specs.Fitting.{is_input, are_inputs_of}
+use Rattle.wf_steps.specs.Items.{in_order}
 
 pub all_flat : {A B : Type 0} (p : B → Bool) (f : A → List B) (xs : List A) → list_all p (flat_map f xs) ≡ list_all (λ x. list_all p (f x)) xs
 all_flat p f [] = refl
@@ -52,3 +55,12 @@ insert_min {A} xs i x = elim (lt_or_ge i (length xs)) [
       ap (λ (n : ℕ). take n xs ++ x ∷ drop n xs) (let e : min i (length xs) ≡ length xs = omega (arith, g) in e)
       ∙ ap₂ (λ (a b : List A). a ++ x ∷ b) (take_all (length xs) xs (omega arith) ∙ sym (take_all i xs g)) (drop_all (length xs) xs (omega arith) ∙ sym (drop_all i xs g))
 ]
+
+-- nothing in order is nothing
+nothing_by : {A : Type 0} (f : ℕ → List A) (ns : List ℕ) → ((n : ℕ) → f n ≡ []) → flat_map f ns ≡ []
+nothing_by f [] none = refl
+nothing_by {A} f (n ∷ ns) none = ap₂ (λ (a b : List A). a ++ b) (none n) (nothing_by f ns none)
+
+pub none_in_order : in_order [] ≡ []
+unfolding in_order
+none_in_order = nothing_by (λ t. filter (λ (s : StartAt). s.trans.0 == t) []) (range_with_len 0 max_transitions) (λ n. refl)

@@ -90,8 +90,8 @@ fn in_order(alloc: Global, starts: &[StartAt]) -> Result<List<StartAt>, NoMemory
     Ok(ordered)
 }
 
-/// Of the starts in the updates those whose activities are listed, by transition. In linear time in the starts times the listed
-/// activities, and in 1,024 times the starts that are listed.
+/// Of the starts in the updates those whose activities are listed, by transition. In linear time in the updates and in the starts times
+/// the listed activities, and if there is a start that is listed, in 1,024 times those.
 pub fn listed_starts(
     alloc: Global,
     acts: &[ActId],
@@ -100,5 +100,8 @@ pub fn listed_starts(
     ensures { IfOk result (λ starts. starts ≡ in_order (listed acts.now (starts_in all.now))) }
 {
     let own = listed_in(alloc, acts, all)?;
+    if own.is_empty() {
+        return Ok(own);
+    }
     in_order(alloc, own.as_slice())
 }

@@ -289,8 +289,7 @@ impl Replica {
         let sealed = self.next_sealed();
         let all = with_own(alloc, &inputs, data.unit.0 as usize, &self.next)?;
         let starts = listed_starts(alloc, self.acts.as_slice(), all.as_slice())?;
-        let mut view = self.view.copy(alloc)?;
-        view.absorb(alloc, &self.part, all.as_slice())?;
+        let view = self.view.after(alloc, &self.part, all.as_slice())?;
         let outers = first_outers(alloc, self.pending_admissions(), sealed as usize)?;
         let next = own_step(alloc, &self.part, &view, step + 1, outers)?;
         Ok(Prepared {

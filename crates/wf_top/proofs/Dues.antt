@@ -1,5 +1,5 @@
 -- What is due, and that a run which writes it may end so.
-use Rattle.std.proofs.Common.{◌≡◌, ◌⊎◌, ◌≤◌, ◌<◌, ◌∙◌, ℕ, ◌++◌, Bool, if◌then◌else◌, List, [], true, false, nat_le, length, take, Option, Some, None, Result, Ok, Err, IfSome, refl, sym, ap, subst, inl, inr, arith, append-nil}
+use Rattle.std.proofs.Common.{◌≡◌, ◌⊎◌, ◌≤◌, ◌<◌, ◌∙◌, ℕ, ◌++◌, Bool, if◌then◌else◌, List, true, false, nat_le, length, take, Option, Some, None, Result, Ok, Err, IfSome, refl, sym, ap, subst, inl, inr, arith, append-nil}
 use Rattle.std.proofs.lemmas.Bool.Decides.{nat_tests}
 use Rattle.std.specs.Io.KnownBytes.{Appends, Consumes, IsAtEnd}
 use lib.Chars.{codes}
@@ -29,6 +29,11 @@ use Rattle.wf_top.specs.declared.command.Command.TheVariants.{Check, Central, Sp
 use Rattle.wf_top.specs.declared.answer.Answer.{Answer}
 use Rattle.wf_top.specs.Answers.{answer, answer_of, answer_within, chart_answer, central_answer, lines_answer, play_answer, play_lines_answer, run_of_play, run_answer, chart_in, MayGive}
 use Rattle.wf_top.specs.Plays.{play_text}
+use Rattle.wf_disk.specs.Shelf.{ShelfTold}
+use Rattle.wf_top.specs.declared.command.Task.{Task}
+use Rattle.wf_top.specs.declared.command.Task.TheVariants as task
+use Rattle.wf_top.specs.Trails.{MayTrailWithin, MayTrail}
+use Rattle.wf_top.specs.Tasks.{HasStatus, MayCome}
 use Rattle.wf_top.specs.Top.{Ends, Answers, IsDue, MayAnswer}
 use Rattle.wf_top.proofs.Fits.{play_named}
 use Rattle.wf_top.proofs.Plays.{no_outcomes}
@@ -50,8 +55,8 @@ whole words before after status.ScriptRefused text due wrote same = record { tex
 whole words before after status.WriteFault text due wrote same = absurd due
 whole words before after status.NoMemory text due wrote same = absurd due
 whole words before after status.Unbuilt text due wrote same = absurd due
-whole words before after status.DiskFault text due wrote same = absurd due
-whole words before after status.Journals text due wrote same = absurd due
+whole words before after status.DiskFault text due wrote same = record { text = text; due = due; written = wrote; faults = same }
+whole words before after status.Journals text due wrote same = record { text = text; due = due; written = wrote; faults = same }
 
 -- who writes what is due may end so
 pub finished : (words : List (List ℕ)) (before after : Ends) (s : Status) (text : List ℕ) (result : Status) → IsDue words before after s text
@@ -116,46 +121,76 @@ within_answered : (command : Command) (outcomes : Outcomes) (input : List ℕ) �
 unfolding answer_within
 within_answered command outcomes input = chart_answered command outcomes (script_part input) (chart_in (chart_part input))
 
--- such an answer is due
-due_answer : (words : List (List ℕ)) (before after : Ends) (s : Status) (text : List ℕ) → IsAnswered s → Answers words before after (answer s text)
-    → IsAtEnd after.left → IsDue words before after s text
-due_answer words before after status.Ok text is a end = inl (a, end)
-due_answer words before after status.ChartRefused text is a end = (a, end)
-due_answer words before after status.ScriptRefused text is a end = (a, end)
-due_answer words before after status.Limit text is a end = (a, inr end)
-due_answer words before after status.Words text is a end = absurd is
-due_answer words before after status.ReadFault text is a end = absurd is
-due_answer words before after status.WriteFault text is a end = absurd is
-due_answer words before after status.NoMemory text is a end = absurd is
-due_answer words before after status.Unbuilt text is a end = absurd is
-due_answer words before after status.DiskFault text is a end = absurd is
-due_answer words before after status.Journals text is a end = absurd is
+-- a command may end with such a status, and asks for no disk
+run_status : (command : Command) (s : Status) (faults : ℕ) → IsAnswered s → HasStatus (task.Run command) s faults faults
+run_status command status.Ok faults is = refl
+run_status command status.ChartRefused faults is = tt
+run_status command status.ScriptRefused faults is = tt
+run_status command status.Limit faults is = tt
+run_status command status.Words faults is = absurd is
+run_status command status.ReadFault faults is = absurd is
+run_status command status.WriteFault faults is = absurd is
+run_status command status.NoMemory faults is = absurd is
+run_status command status.Unbuilt faults is = absurd is
+run_status command status.DiskFault faults is = absurd is
+run_status command status.Journals faults is = absurd is
 
-pub answer_due : (words : List (List ℕ)) (before after : Ends) (command : Command) (outcomes : Outcomes) (bytes : List ℕ) (s : Status) (text : List ℕ)
-    → answer s text ≡ answer_within command outcomes bytes → Answers words before after (answer s text) → IsAtEnd after.left → IsDue words before after s text
-answer_due words before after command outcomes bytes s text is a end =
-    due_answer words before after s text (subst (λ (x : Answer). IsAnswered x.status) (sym is) (within_answered command outcomes bytes)) a end
+pub command_status : (command : Command) (outcomes : Outcomes) (input : List ℕ) (faults : ℕ) (a : Answer) → a ≡ answer_within command outcomes input
+    → HasStatus (task.Run command) a.status faults faults
+command_status command outcomes input faults a is =
+    run_status command a.status faults (subst (λ (x : Answer). IsAnswered x.status) (sym is) (within_answered command outcomes input))
+
+-- what comes of a task is due
+pub due_answer : (words : List (List ℕ)) (before after : Ends) (s : Status) (text : List ℕ) → Answers words before after (answer s text)
+    → IsAtEnd after.left → IsDue words before after s text
+due_answer words before after status.Ok text a end = inl (a, end)
+due_answer words before after status.ChartRefused text a end = (a, end)
+due_answer words before after status.ScriptRefused text a end = (a, end)
+due_answer words before after status.DiskFault text a end = (a, end)
+due_answer words before after status.Limit text a end = (a, inr end)
+due_answer words before after status.Journals text a end = (a, end)
+due_answer words before after status.Words text a end = absurd a.status
+due_answer words before after status.ReadFault text a end = absurd a.status
+due_answer words before after status.WriteFault text a end = absurd a.status
+due_answer words before after status.NoMemory text a end = absurd a.status
+due_answer words before after status.Unbuilt text a end = absurd a.status
+
+-- ONE INPUT
+
+pub short_answer : (command : Command) (outcomes : Outcomes) (input : List ℕ) (a : Answer) → length input ≤ max_input → a ≡ answer_within command outcomes input
+    → MayGive command input a
+unfolding answer_of
+short_answer command outcomes input a h is = let short : nat_le (length input) max_input ≡ true = grind (arith, nat_tests) in (outcomes, rw short (sym is))
+
+pub short_trail : (shelf : ShelfTold) (input : List ℕ) (a : Answer) → length input ≤ max_input → MayTrailWithin shelf input a → MayTrail shelf input a
+short_trail shelf input a h may = let short : nat_le (length input) max_input ≡ true = grind (arith, nat_tests, h) in rw short may
+
+abbrev too_long : Answer
+too_long = answer status.Limit (refusal (codes "limit input"))
+
+long_answer : (command : Command) (input : List ℕ) → max_input < length input → MayGive command input too_long
+unfolding answer_of
+long_answer command input h = let long : nat_le (length input) max_input ≡ false = grind (arith, nat_tests) in (no_outcomes, rw long refl)
+
+long_trail : (shelf : ShelfTold) (input : List ℕ) → max_input < length input → MayTrail shelf input too_long
+long_trail shelf input h = let long : nat_le (length input) max_input ≡ false = grind (arith, nat_tests, h) in rw long refl
+
+long_come : (t : Task) (shelf : ShelfTold) (input : List ℕ) → max_input < length input → MayCome t shelf input too_long
+long_come (task.Run command) shelf input h = long_answer command input h
+long_come task.Trail shelf input h = long_trail shelf input h
+
+-- ALL THAT WAS LEFT
 
 -- more bytes than may be
-pub long_answer : (command : Command) (left : Option (List ℕ)) → IfSome left (λ bytes. max_input < length bytes)
-    → IfSome left (λ input. MayGive command input (answer status.Limit (refusal (codes "limit input"))))
-unfolding answer_of
-long_answer command None h = tt
-long_answer command (Some input) h = let long : nat_le (length input) max_input ≡ false = grind (arith, nat_tests) in (no_outcomes, rw long refl)
+pub long_left : (t : Task) (shelf : ShelfTold) (left : Option (List ℕ)) → IfSome left (λ bytes. max_input < length bytes)
+    → IfSome left (λ input. MayCome t shelf input (answer status.Limit (refusal (codes "limit input"))))
+long_left t shelf None h = tt
+long_left t shelf (Some input) h = long_come t shelf input h
 
-short_answer : (command : Command) (outcomes : Outcomes) (bytes : List ℕ) → length bytes ≤ max_input → answer_of command outcomes bytes ≡ answer_within command outcomes bytes
-unfolding answer_of
-short_answer command outcomes bytes h = let short : nat_le (length bytes) max_input ≡ true = grind (arith, nat_tests) in rw short refl
-
-known_answer : (command : Command) (outcomes : Outcomes) (left after : Option (List ℕ)) (bytes : List ℕ) (a : Answer) → Consumes left after bytes → IsAtEnd after
-    → answer_of command outcomes bytes ≡ a → IfSome left (λ input. MayGive command input a)
-known_answer command outcomes None after bytes a taken end is = tt
-known_answer command outcomes (Some input) None bytes a taken end is = absurd taken
-known_answer command outcomes (Some input) (Some rest) bytes a taken end is =
-    (outcomes, ap (answer_of command outcomes) (taken ∙ ap (λ (l : List ℕ). bytes ++ l) end ∙ append-nil bytes) ∙ is)
-
--- the answer to all that was left
-pub read_answer : (command : Command) (outcomes : Outcomes) (left after : Option (List ℕ)) (bytes : List ℕ) (a : Answer) → Consumes left after bytes → IsAtEnd after
-    → length bytes ≤ max_input → a ≡ answer_within command outcomes bytes → IfSome left (λ input. MayGive command input a)
-read_answer command outcomes left after bytes a taken end within is =
-    known_answer command outcomes left after bytes a taken end (short_answer command outcomes bytes within ∙ sym is)
+-- what comes of the bytes that were read comes of all that was left
+pub read_left : (t : Task) (shelf : ShelfTold) (left after : Option (List ℕ)) (bytes : List ℕ) (a : Answer) → Consumes left after bytes → IsAtEnd after
+    → MayCome t shelf bytes a → IfSome left (λ input. MayCome t shelf input a)
+read_left t shelf None after bytes a taken end came = tt
+read_left t shelf (Some input) None bytes a taken end came = absurd taken
+read_left t shelf (Some input) (Some rest) bytes a taken end came =
+    subst (λ (i : List ℕ). MayCome t shelf i a) (sym (taken ∙ ap (λ (l : List ℕ). bytes ++ l) end ∙ append-nil bytes)) came

@@ -3,4 +3,5 @@ pub mod Fits
 pub mod Plays
 pub mod Unarmed
 pub mod Dues
+pub mod Trails
 pub mod Ends

@@ -1,5 +1,5 @@
 -- What the program has to answer: a status, and a text.
-use Rattle.std.specs.Prelude.{◌≡◌, ℕ, Bool, ◌&&◌, List, [], ◌∷◌, nat_le, length, Option, Some, None, Result, Ok, Err, if◌then◌else◌}
+use Rattle.std.specs.Prelude.{◌≡◌, ℕ, Bool, ◌&&◌, List, [], ◌∷◌, nat_le, length, Option, Some, None, Result, Ok, Err, option_map, if◌then◌else◌}
 use Rattle.std.specs.List.{list_all}
 use Rattle.std.specs.Str.{bytes_eq}
 use lib.Chars.{codes}
@@ -32,6 +32,8 @@ use Rattle.wf_audit.specs.CentralText.{central_text}
 use Rattle.wf_partition.specs.SplitText.{split_text}
 use Rattle.wf_top.specs.declared.command.Command.{Command}
 use Rattle.wf_top.specs.declared.command.Command.TheVariants.{Check, Central, Split, Play}
+use Rattle.wf_top.specs.declared.command.Task.{Task}
+use Rattle.wf_top.specs.declared.command.Task.TheVariants as task
 use Rattle.wf_top.specs.declared.answer.Answer.{Answer}
 use Rattle.wf_top.specs.Plays.{play_text}
 
@@ -43,11 +45,15 @@ command_named word =
     else (if bytes_eq word (codes "central") then Some Central
     else (if bytes_eq word (codes "split") then Some Split else (if bytes_eq word (codes "play") then Some Play else None)))
 
--- the command that the words name: one word, and no other
-abbrev pub command_of : List (List ℕ) → Option Command
-command_of [] = None
-command_of (word ∷ []) = command_named word
-command_of (word ∷ other ∷ more) = None
+-- a command, or the trail
+abbrev pub task_named : List ℕ → Option Task
+task_named word = if bytes_eq word (codes "trail") then Some task.Trail else option_map task.Run (command_named word)
+
+-- the task that the words name: one word, and no other
+abbrev pub task_of : List (List ℕ) → Option Task
+task_of [] = None
+task_of (word ∷ []) = task_named word
+task_of (word ∷ other ∷ more) = None
 
 -- 1 to 10 digits
 abbrev pub is_number : List ℕ → Bool

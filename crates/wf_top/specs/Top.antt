@@ -6,30 +6,34 @@ use Rattle.wf_model.specs.declared.status.Status.{Status}
 use Rattle.wf_model.specs.declared.status.Status.TheVariants as status
 use Rattle.wf_model.specs.Faults.{Rose}
 use Rattle.wf_refusals.specs.Lines.{refusal}
-use Rattle.wf_top.specs.declared.command.Command.{Command}
+use Rattle.wf_disk.specs.Shelf.{ShelfTold}
+use Rattle.wf_top.specs.declared.command.Task.{Task}
 use Rattle.wf_top.specs.declared.answer.Answer.{Answer}
 use Rattle.wf_gen.specs.GenText.{gen_text}
-use Rattle.wf_top.specs.Answers.{answer, MayGive, command_of, gen_number}
+use Rattle.wf_top.specs.Answers.{answer, task_of, gen_number}
+use Rattle.wf_top.specs.Tasks.{HasStatus, MayCome}
 
--- source and sink at one moment: the bytes that the source has left and those that the sink holds, where they tell, and how
--- often each has failed
-pub record Ends : Type 0 where
+-- source, sink and shelf at one moment: the bytes that the source has left and those that the sink holds, where they tell, and how
+-- often each has failed; and what the shelf tells
+pub record Ends : Type 1 where
   pub left : Option (List ℕ)
   pub read_faults : ℕ
   pub held : Option (List ℕ)
   pub write_faults : ℕ
+  pub shelf : ShelfTold
 
 -- the source is as before
 pub record IsUnread (before after : Ends) : Type 0 where
   pub left : after.left ≡ before.left
   pub faults : after.read_faults ≡ before.read_faults
 
--- the words name a command, no read failed, and the command may give this answer to the bytes that the source had left
+-- the words name a task, no read failed, and this answer may come of it: by its status, and by the bytes that the source had left
 pub record Answers (words : List (List ℕ)) (before after : Ends) (a : Answer) : Type 0 where
-  pub command : Command
-  pub named : command_of words ≡ Some command
+  pub task : Task
+  pub named : task_of words ≡ Some task
   pub faults : after.read_faults ≡ before.read_faults
-  pub answer : IfSome before.left (λ input. MayGive command input a)
+  pub status : HasStatus task a.status before.shelf.faults after.shelf.faults
+  pub answer : IfSome before.left (λ input. MayCome task before.shelf input a)
 
 -- the words name a number, the text is the input that is generated from it, and nothing was read
 pub record IsGenerated (words : List (List ℕ)) (before after : Ends) (text : List ℕ) : Type 0 where
@@ -38,10 +42,10 @@ pub record IsGenerated (words : List (List ℕ)) (before after : Ends) (text : L
   pub made : text ≡ gen_text number
   pub unread : IsUnread before after
 
--- the words name a command, and a read failed
+-- the words name a task, and a read failed
 pub record IsUnreadable (words : List (List ℕ)) (before after : Ends) : Type 0 where
-  pub command : Command
-  pub named : command_of words ≡ Some command
+  pub task : Task
+  pub named : task_of words ≡ Some task
   pub faults : Rose before.read_faults after.read_faults
 
 -- This status with this text is due, by the words, by the bytes that the source had left, and by whether a read failed. An
@@ -51,13 +55,13 @@ IsDue words before after status.Ok text = (Answers words before after (answer st
 IsDue words before after status.ChartRefused text = Answers words before after (answer status.ChartRefused text) × IsAtEnd after.left
 IsDue words before after status.ScriptRefused text = Answers words before after (answer status.ScriptRefused text) × IsAtEnd after.left
 IsDue words before after status.Limit text = Answers words before after (answer status.Limit text) × ((text ≡ refusal (codes "limit input")) ⊎ IsAtEnd after.left)
-IsDue words before after status.Words text = (command_of words ≡ None) × (gen_number words ≡ None) × IsUnread before after × (text ≡ refusal (codes "words"))
+IsDue words before after status.Words text = (task_of words ≡ None) × (gen_number words ≡ None) × IsUnread before after × (text ≡ refusal (codes "words"))
 IsDue words before after status.ReadFault text = IsUnreadable words before after × (text ≡ refusal (codes "read"))
 IsDue words before after status.WriteFault text = ⊥
 IsDue words before after status.NoMemory text = ⊥
 IsDue words before after status.Unbuilt text = ⊥
-IsDue words before after status.DiskFault text = ⊥
-IsDue words before after status.Journals text = ⊥
+IsDue words before after status.DiskFault text = Answers words before after (answer status.DiskFault text) × IsAtEnd after.left
+IsDue words before after status.Journals text = Answers words before after (answer status.Journals text) × IsAtEnd after.left
 
 -- what is due was written, and no write failed
 pub record IsWritten (words : List (List ℕ)) (before after : Ends) (s : Status) : Type 0 where
@@ -87,5 +91,5 @@ MayAnswer words before after status.ReadFault = IsWritten words before after sta
 MayAnswer words before after status.Limit = IsWritten words before after status.Limit
 MayAnswer words before after status.ScriptRefused = IsWritten words before after status.ScriptRefused
 MayAnswer words before after status.Unbuilt = ⊥
-MayAnswer words before after status.DiskFault = ⊥
-MayAnswer words before after status.Journals = ⊥
+MayAnswer words before after status.DiskFault = IsWritten words before after status.DiskFault
+MayAnswer words before after status.Journals = IsWritten words before after status.Journals

@@ -20,6 +20,15 @@ pub enum Command {
     Play,
 }
 
+/// What a run is to do with its input.
+#[derive(Clone, Copy)]
+pub enum Task {
+    /// What a command asks, by the input alone.
+    Run(Command),
+    /// To tell what the journals of the units of the input's chart hold.
+    Trail,
+}
+
 fn command_named(word: &[u8]) -> Option<Command>
     ensures { result ≡ spec.command_named word.now }
 {
@@ -36,12 +45,24 @@ fn command_named(word: &[u8]) -> Option<Command>
     }
 }
 
-/// The command that the words name.
-pub fn command_of(words: &[Bytes]) -> Option<Command>
-    ensures { result ≡ spec.command_of words.now }
+fn task_named(word: &[u8]) -> Option<Task>
+    ensures { result ≡ spec.task_named word.now }
+{
+    if word == b"trail".as_slice() {
+        return Some(Task::Trail);
+    }
+    match command_named(word) {
+        Some(command) => Some(Task::Run(command)),
+        None => None,
+    }
+}
+
+/// The task that the words name.
+pub fn task_of(words: &[Bytes]) -> Option<Task>
+    ensures { result ≡ spec.task_of words.now }
 {
     match words {
-        [word] => command_named(word.as_slice()),
+        [word] => task_named(word.as_slice()),
         _ => None,
     }
 }

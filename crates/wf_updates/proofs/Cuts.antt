@@ -1,5 +1,5 @@
 -- Outers and updates, cut piece by piece.
-use Rattle.std.proofs.Common.{◌≡◌, ◌↔◌, ◌<◌, ◌+◌, ◌||◌, ℕ, IsTrue, Bool, true, false, not, cond, List, [], ◌∷◌, ◌++◌, length, take, get_or, filter, filter_map, Option, Some, None, refl, sym, ap, ◌∙◌, true≢false}
+use Rattle.std.proofs.Common.{◌≡◌, ◌↔◌, ◌<◌, ◌+◌, ◌==◌, ◌&&◌, ◌||◌, ℕ, IsTrue, Bool, true, false, not, cond, List, [], ◌∷◌, ◌++◌, length, take, get_or, filter, filter_map, Option, Some, None, refl, sym, ap, ◌∙◌, true≢false, eqb-true, arith}
 use Rattle.std.specs.List.{list_any, cons_option}
 use Rattle.std.proofs.lemmas.List.{take_more, append-nil}
 use Rattle.std.proofs.lemmas.List.Elements.{filter_map-append}
@@ -16,6 +16,7 @@ use Rattle.wf_model.specs.declared.update.Update.{Update}
 use Rattle.wf_parts.specs.Peers.{Knowledge}
 use Rattle.wf_views.specs.Knowledge.{cut_outer}
 use Rattle.wf_views.specs.Relevant.{cut_update}
+use Rattle.wf_updates.specs.Tables.{is_bare}
 
 -- a list of which nothing passes
 none_passes : {A : Type 0} (p : A → Bool) (xs : List A) → list_any p xs ≡ false → filter p xs ≡ []
@@ -90,3 +91,30 @@ pub update_made : (known : Knowledge) (update : Update) (flips : List StateId) (
 unfolding cut_update
 update_made known update flips writes raised starts fired outer f w r s d o =
     λ i. record { from = update.from; step = update.step; flips = f i; writes = w i; raised = r i; starts = s i; fired = d i; outer = o i }
+
+-- an update that has nothing is cut to the same by whatever is known
+
+no_item : {A : Type 0} (xs : List A) → (length xs == 0) ≡ true → xs ≡ []
+no_item [] e = refl
+no_item (x ∷ xs) e = let zero : length (x ∷ xs) ≡ 0 = eqb-true (length (x ∷ xs)) 0 e in absurd (omega (arith, zero))
+
+both_true : (a b : Bool) → (a && b) ≡ true → (a ≡ true) × (b ≡ true)
+both_true true b e = (refl, e)
+both_true false b e = absurd (true≢false (sym e))
+
+same_filter : {A : Type 0} (p q : A → Bool) (xs : List A) → (length xs == 0) ≡ true → filter p xs ≡ filter q xs
+same_filter p q xs e = let none = no_item xs e in ap (filter p) none ∙ sym (ap (filter q) none)
+
+pub bare_cut : (known other : Knowledge) (update : Update) → is_bare update ≡ true → cut_update known update ≡ cut_update other update
+unfolding cut_update
+bare_cut known other update bare =
+    let a = both_true ((((length update.flips == 0) && (length update.writes == 0)) && (length update.raised == 0)) && (length update.starts == 0)) (length update.outer == 0) bare in
+    let b = both_true (((length update.flips == 0) && (length update.writes == 0)) && (length update.raised == 0)) (length update.starts == 0) a.0 in
+    let d = both_true ((length update.flips == 0) && (length update.writes == 0)) (length update.raised == 0) b.0 in
+    let e = both_true (length update.flips == 0) (length update.writes == 0) d.0 in
+    let none = no_item update.outer a.1 in
+    update_made other update (filter (λ s. known.states s.0) update.flips) (filter (λ write. known.vars write.var.0) update.writes) (filter (λ e. known.events e.0) update.raised) (filter (λ start. known.acts start.act.0) update.starts) []
+    (filter_map (cut_outer known) update.outer) (same_filter (λ s. known.states s.0) (λ s. other.states s.0) update.flips e.0)
+    (same_filter (λ write. known.vars write.var.0) (λ write. other.vars write.var.0) update.writes e.1) (same_filter (λ e. known.events e.0) (λ e. other.events e.0) update.raised d.1)
+    (same_filter (λ start. known.acts start.act.0) (λ start. other.acts start.act.0) update.starts b.1) refl
+    (ap (filter_map (cut_outer known)) none ∙ sym (ap (filter_map (cut_outer other)) none))

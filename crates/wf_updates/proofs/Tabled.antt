@@ -1,7 +1,7 @@
 -- What is read of tables is what is searched for.
-use Rattle.std.proofs.Common.{◌≡◌, ℕ, ◌+◌, ◌-◌, ◌<◌, ◌==◌, max, Bool, true, false, cond, List, [], ◌∷◌, ◌++◌, length, map, take, filter, filter_map, flat_map, fold, get_or, unwrap_or, Option, Some, None, All, refl, sym, ◌∙◌, ap, ap₂, arith}
+use Rattle.std.proofs.Common.{◌≡◌, ℕ, ◌+◌, ◌-◌, ◌<◌, ◌==◌, max, Bool, true, false, true≢false, ◌&&◌, cond, List, [], ◌∷◌, ◌++◌, length, map, take, filter, filter_map, flat_map, fold, get_or, unwrap_or, Option, Some, None, All, refl, sym, ◌∙◌, ap, ap₂, arith, eqb-true}
 use Rattle.std.specs.Option.{option_map_or}
-use Rattle.std.specs.List.{range_with_len, list_any, cons_option}
+use Rattle.std.specs.List.{range_with_len, list_any, list_all, cons_option}
 use Rattle.std.proofs.lemmas.List.{take_more, append-nil, append_assoc}
 use Rattle.std.proofs.lemmas.List.Elements.{filter_map-append, All-nil, All-cons, All-head, All-tail}
 use Rattle.std.proofs.lemmas.Grind.{flat_map-append}
@@ -12,6 +12,7 @@ use Rattle.wf_model.specs.declared.ids.ActId.{ActId}
 use Rattle.wf_model.specs.declared.ids.StateId.{StateId}
 use Rattle.wf_model.specs.declared.value.Val.{Val}
 use Rattle.wf_model.specs.declared.outer.Output.{Output}
+use Rattle.wf_model.specs.declared.outer.Outer.{Outer}
 use Rattle.wf_model.specs.declared.outer.Entry.{Entry}
 use Rattle.wf_model.specs.declared.update.Write.{Write}
 use Rattle.wf_model.specs.declared.update.StartAt.{StartAt}
@@ -169,3 +170,53 @@ entries_more known all i u old new lt is before now =
     ∙ sym (ap (λ (l : List Update). cut_entries known (entries_in l)) (take_more all i u lt ∙ ap (λ (z : Update). take i all ++ z ∷ []) (sym is))
     ∙ ap (cut_entries known) (flat_map-append entries_of (take i all) (u ∷ []) ∙ ap (λ (l : List Entry). entries_in (take i all) ++ l) (append-nil (entries_of u)))
     ∙ filter_map-append (cut_entry known) (entries_in (take i all)) (entries_of u))
+
+-- WHERE NOTHING CAME
+
+-- an empty list, by its length
+pub none_long : {A : Type 0} (xs : List A) → (length xs == 0) ≡ true → xs ≡ []
+none_long [] e = refl
+none_long (x ∷ xs) e = let zero : length (x ∷ xs) ≡ 0 = eqb-true (length (x ∷ xs)) 0 e in absurd (omega (arith, zero))
+
+pub none_mapped : {A B : Type 0} (f : A → B) (xs : List A) → map f xs ≡ [] → xs ≡ []
+none_mapped f [] e = refl
+none_mapped f (x ∷ xs) e = cc
+
+-- the variables and the counts stay
+
+values_stay : (vars : List Output) → map (λ o. let r : Output = record { var = o.var; val = value_after [] o.var.0 (after_outputs o.var.0 [] o.val) } in r) vars ≡ vars
+values_stay [] = refl
+values_stay (o ∷ os) = ap (λ (l : List Output). o ∷ l) (values_stay os)
+
+pub values_kept : (vars outputs : List Output) (writes : List Write) → outputs ≡ [] → writes ≡ [] → vars ≡ map (λ o. record { var = o.var; val = value_after writes o.var.0 (after_outputs o.var.0 outputs o.val) }) vars
+values_kept vars outputs writes a b =
+    sym (ap₂ (λ (os : List Output) (ws : List Write). map (λ o. let r : Output = record { var = o.var; val = value_after ws o.var.0 (after_outputs o.var.0 os o.val) } in r) vars) a b ∙ values_stay vars)
+
+counts_stay : (unclosed : List (ActId × ℕ)) → counted (λ a. a.1 - done_count a.0.0 [] + start_count a.0.0 []) unclosed ≡ unclosed
+counts_stay [] = refl
+counts_stay (a ∷ rest) =
+    let same : a.1 - 0 + 0 ≡ a.1 = omega arith in
+    ap₂ (λ (n : ℕ) (l : List (ActId × ℕ)). let p : ActId × ℕ = (a.0, n) in p ∷ l) same (counts_stay rest)
+
+pub counts_kept : (unclosed : List (ActId × ℕ)) (cs : List Completion) (starts : List StartAt) → cs ≡ [] → starts ≡ [] → unclosed ≡ counted (λ a. a.1 - done_count a.0.0 cs + start_count a.0.0 starts) unclosed
+counts_kept unclosed cs starts a b =
+    sym (ap₂ (λ (x : List Completion) (y : List StartAt). counted (λ a. a.1 - done_count a.0.0 x + start_count a.0.0 y) unclosed) a b ∙ counts_stay unclosed)
+
+-- nothing is raised
+pub none_raised : (known : List KnownEvent) (all : List Update) → flat_map (λ update. update.raised) all ≡ [] → [] ≡ events_among known (is_raised all)
+none_raised [] all e = refl
+none_raised (k ∷ ks) all e =
+    let no : is_raised all k.id.0 ≡ false = sym (any_flat_map (λ r. r.0 == k.id.0) (λ (update : Update). update.raised) all) ∙ ap (list_any (λ r. r.0 == k.id.0)) e in
+    none_raised ks all e
+    ∙ sym (ap (λ (b : Bool). map (λ (known : KnownEvent). known.id) (cond b (k ∷ filter (λ known. is_raised all known.id.0) ks) (filter (λ known. is_raised all known.id.0) ks))) no)
+
+-- no entry comes
+pub none_entered : (known : Knowledge) (all : List Update) → list_all (λ update. length update.outer == 0) all ≡ true → [] ≡ cut_entries known (entries_in all)
+none_entered known [] e = refl
+none_entered known (u ∷ us) e = go (length u.outer == 0) refl e (none_entered known us)
+  where
+    go : (b : Bool) → (length u.outer == 0) ≡ b → (b && list_all (λ update. length update.outer == 0) us) ≡ true → (list_all (λ update. length update.outer == 0) us ≡ true → [] ≡ cut_entries known (entries_in us)) → [] ≡ cut_entries known (entries_in (u ∷ us))
+    go true none rest on =
+        on rest
+        ∙ sym (ap (λ (outers : List Outer). cut_entries known (map (λ outer. record { unit = u.from; outer = outer }) outers ++ entries_in us)) (none_long u.outer none))
+    go false none rest on = absurd (true≢false (sym rest))

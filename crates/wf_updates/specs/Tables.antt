@@ -1,5 +1,5 @@
 -- Of other calls. What tables by number tell.
-use Rattle.std.specs.Prelude.{ℕ, ◌+◌, ◌==◌, Bool, List, [], ◌∷◌, length, filter, find, max, fold, Option, Some, None, if◌then◌else◌, slice_index_or}
+use Rattle.std.specs.Prelude.{ℕ, ◌+◌, ◌==◌, ◌&&◌, Bool, List, [], ◌∷◌, length, filter, find, max, fold, Option, Some, None, if◌then◌else◌, slice_index_or}
 use Rattle.std.specs.Option.{option_map, option_map_or}
 use Rattle.std.specs.List.{list_any}
 use Rattle.wf_model.specs.Bits.{bit}
@@ -8,6 +8,7 @@ use Rattle.wf_model.specs.declared.ids.EventId.{EventId}
 use Rattle.wf_model.specs.declared.outer.Output.{Output}
 use Rattle.wf_model.specs.declared.outer.Outer.{Outer}
 use Rattle.wf_model.specs.declared.outer.Outer.TheVariants.{Happen, Complete}
+use Rattle.wf_model.specs.declared.update.Update.{Update}
 use Rattle.wf_parts.specs.declared.data.Known.{Known}
 use Rattle.wf_parts.specs.Peers.{Knowledge}
 use Rattle.wf_views.specs.Relevant.{is_listed, nothing}
@@ -28,6 +29,11 @@ told_by sets = record { states = bit sets.states; vars = bit sets.vars; events =
 -- what this peer knows by what is kept of peers; who is no peer knows nothing
 abbrev pub known_at : List Known → ℕ → Knowledge
 known_at peers peer = option_map_or is_listed (find (λ known. known.unit.0 == peer) peers) nothing
+
+-- an update has nothing that may be cut
+abbrev pub is_bare : Update → Bool
+is_bare update =
+    ((((length update.flips == 0) && (length update.writes == 0)) && (length update.raised == 0)) && (length update.starts == 0)) && (length update.outer == 0)
 
 -- how many of these numbers are k
 abbrev pub count_of : List ℕ → ℕ → ℕ

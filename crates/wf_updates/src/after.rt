@@ -1,10 +1,10 @@
 //! The lists of a view after a step.
-ghost use Rattle.std.specs.Prelude.{◌≡◌, ◌+◌, ◌-◌, ◌<◌, ◌^◌, ◌==◌, ◌++◌, All, map, IfOk, OnOk};
-ghost use Rattle.std.specs.List.{list_any, range_with_len};
+ghost use Rattle.std.specs.Prelude.{◌≡◌, ◌+◌, ◌-◌, ◌<◌, ◌^◌, ◌==◌, ◌++◌, All, length, map, IfOk, OnOk};
+ghost use Rattle.std.specs.List.{list_any, list_all, range_with_len};
 ghost use Rattle.wf_model.specs.Bits.{bit};
 ghost use Rattle.wf_semantics.specs.Items.{done_count};
 ghost use Rattle.wf_views.specs.OwnSteps.{differs};
-ghost use Rattle.wf_views.specs.Knowledge.{cut_entries};
+ghost use Rattle.wf_views.specs.Knowledge.{known_to, cut_entries};
 ghost use Rattle.wf_views.specs.Views.{completions_in};
 ghost use Rattle.wf_views.specs.Absorbing.{is_flipped, is_raised, start_count, starts_in, entries_in};
 ghost use Rattle.wf_updates.specs.Tables.{told_by};
@@ -22,7 +22,7 @@ use std::alloc::Global;
 use wf_model::{
     ActId, Bits, Entry, EventId, List, NoMemory, Outer, Output, StateId, UnitId, Update, Val, Write,
 };
-use wf_parts::{KnownEvent, KnownState};
+use wf_parts::{KnownEvent, KnownState, PartData};
 
 /// The set of these states. In linear time in them and in the greatest of their numbers.
 pub fn state_set(alloc: Global, ids: &[StateId]) -> Result<Bits, NoMemory>
@@ -116,6 +116,10 @@ pub fn raised_after(
 ) -> Result<List<EventId>, NoMemory>
     ensures { IfOk result (λ ids. ids ≡ events_among known.now (is_raised all.now)) }
 {
+    let gathered = all_raised(alloc, all)?;
+    if gathered.is_empty() {
+        return Ok(List::new(alloc));
+    }
     let numbers = known_events(alloc, known)?;
     let raised = raised_below(alloc, past_numbers(numbers.as_slice()), all)?;
     events_among(alloc, known, &raised)
@@ -159,11 +163,14 @@ pub fn vars_after(
 ) -> Result<List<Output>, NoMemory>
     ensures { IfOk result (λ values. values ≡ vars_after vars.now next.now all.now) }
 {
+    let outputs = all_outputs(alloc, next)?;
+    let writes = all_writes(alloc, all)?;
+    if outputs.is_empty() && writes.is_empty() {
+        return List::from_slice(alloc, vars);
+    }
     let numbers = output_numbers(alloc, vars)?;
     let count = past_numbers(numbers.as_slice());
-    let outputs = all_outputs(alloc, next)?;
     let last = last_below(alloc, count, outputs.as_slice())?;
-    let writes = all_writes(alloc, all)?;
     let best = writes_below(alloc, count, writes.as_slice())?;
     values_by(alloc, vars, last.as_slice(), best.as_slice())
 }
@@ -222,6 +229,11 @@ pub fn open_counts_after(
     requires { All (λ a. count_after next.now all.now a < 2 ^ 32) unclosed.now }
     ensures { IfOk result (λ counts. counts ≡ counted (count_after next.now all.now) unclosed.now) }
 {
+    let completed = completed_acts(alloc, next)?;
+    let starts = all_starts(alloc, all)?;
+    if completed.as_slice().is_empty() && starts.is_empty() {
+        return List::from_slice(alloc, unclosed);
+    }
     let numbers = open_numbers(alloc, unclosed)?;
     let count = past_numbers(numbers.as_slice());
     let done = done_below(alloc, count, next)?;
@@ -247,8 +259,8 @@ fn add_entries(
     Ok(())
 }
 
-/// The entries of the next step, as far as they are known. In linear time.
-pub fn next_after(alloc: Global, all: &[Update], known: &KnownSets) -> Result<List<Entry>, NoMemory>
+// The entries of the next step, as far as they are known.
+fn cut_entries(alloc: Global, all: &[Update], known: &KnownSets) -> Result<List<Entry>, NoMemory>
     ensures { IfOk result (λ entries. entries ≡ cut_entries (told_by known.now) (entries_in all.now)) }
 {
     let mut entries = List::new(alloc);
@@ -262,4 +274,23 @@ pub fn next_after(alloc: Global, all: &[Update], known: &KnownSets) -> Result<Li
         )?;
     }
     Ok(entries)
+}
+
+// Whether no update has an outer of the next step.
+fn have_no_outer(all: &[Update]) -> bool
+    ensures { result ≡ list_all (λ update. length update.outer == 0) all.now }
+{
+    all.iter().all(|update| update.outer.len() == 0)
+}
+
+/// The entries of the next step, as far as the part knows them. In linear time. What the part knows is looked up only if there is an
+/// entry.
+pub fn next_after(alloc: Global, all: &[Update], part: &PartData) -> Result<List<Entry>, NoMemory>
+    ensures { IfOk result (λ entries. entries ≡ cut_entries (known_to part.now) (entries_in all.now)) }
+{
+    if have_no_outer(all) {
+        return Ok(List::new(alloc));
+    }
+    let known = KnownSets::of_part(alloc, part)?;
+    cut_entries(alloc, all, &known)
 }

@@ -5,7 +5,7 @@ ghost use Rattle.wf_model.specs.Bits.{bit};
 ghost use Rattle.wf_model.specs.declared.outer.Outer.TheVariants.{Complete};
 ghost use Rattle.wf_views.specs.Knowledge.{cut_outer};
 ghost use Rattle.wf_views.specs.Relevant.{cut_update, relevant};
-ghost use Rattle.wf_updates.specs.Tables.{known_at, told_by};
+ghost use Rattle.wf_updates.specs.Tables.{is_bare, known_at, told_by};
 
 use crate::sets::KnownSets;
 use std::alloc::Global;
@@ -166,6 +166,33 @@ fn peer_sets(alloc: Global, peers: &[Known], peer: UnitId) -> Result<KnownSets, 
     }
 }
 
+// Whether an update has nothing that may be cut.
+fn is_bare(update: &Update) -> bool
+    ensures { result ≡ is_bare update.now }
+{
+    update.flips.len() == 0
+        && update.writes.len() == 0
+        && update.raised.len() == 0
+        && update.starts.len() == 0
+        && update.outer.len() == 0
+}
+
+// What this peer knows, or nothing for an update that has nothing: it is cut to the same.
+fn sets_for(
+    alloc: Global,
+    update: &Update,
+    peers: &[Known],
+    peer: UnitId,
+) -> Result<KnownSets, NoMemory>
+    ensures { IfOk result (λ sets. cut_update (told_by sets) update.now ≡ relevant peers.now update.now peer.0) }
+{
+    if is_bare(update) {
+        KnownSets::none(alloc)
+    } else {
+        peer_sets(alloc, peers, peer)
+    }
+}
+
 /// What a peer is sent of an update of this part's unit: each list cut to what the peer knows of it, with no fired
 /// transition. A completion stays if its activity or one of its outputs is known, with the known outputs. Who is no peer is
 /// sent an empty update. It refuses only if memory runs out.
@@ -179,6 +206,6 @@ pub fn relevant(
 ) -> Result<Update, NoMemory>
     ensures { IfOk result (λ cut. cut ≡ relevant part.now.peers update.now peer.0) }
 {
-    let known = peer_sets(alloc, part.data().peers.as_slice(), peer)?;
+    let known = sets_for(alloc, update, part.data().peers.as_slice(), peer)?;
     cut_update(alloc, update, &known)
 }

@@ -11,7 +11,6 @@ use crate::after::{
 };
 use crate::first::{first_states, first_values, none_open};
 use crate::now::{counts_now, done_set, there_set, values_now};
-use crate::sets::KnownSets;
 use std::alloc::Global;
 use std::marker::Model;
 use wf_model::{
@@ -67,22 +66,30 @@ impl View {
         ensures ok { OnOk result (self.new ≡ absorbed part.now self.old all.now) }
         ensures err { OnErr result (self.new ≡ self.old) }
     {
+        *self = self.after(alloc, part, all)?;
+        Ok(())
+    }
+
+    /// The view after a step, as `absorb` takes it in. No count may pass 32 bits. It refuses only if memory runs out. It takes as long as
+    /// `absorb`.
+    pub fn after(&self, alloc: Global, part: &Part, all: &[Update]) -> Result<View, NoMemory>
+        requires { All (λ a. count_now self.now a + start_count a.0.0 (starts_in all.now) < 2 ^ 32) self.now.unclosed }
+        ensures { IfOk result (λ view. view ≡ absorbed part.now self.now all.now) }
+    {
         let data = part.data();
-        let known = KnownSets::of_part(alloc, data)?;
         let before = self.next.as_slice();
         let states = states_after(alloc, data.states.as_slice(), self.states.as_slice(), all)?;
         let vars = vars_after(alloc, self.vars.as_slice(), before, all)?;
         let raised = raised_after(alloc, data.events.as_slice(), all)?;
         let unclosed = open_counts_after(alloc, self.unclosed.as_slice(), before, all)?;
-        let next = next_after(alloc, all, &known)?;
-        *self = View {
+        let next = next_after(alloc, all, data)?;
+        Ok(View {
             states,
             vars,
             raised,
             unclosed,
             next,
-        };
-        Ok(())
+        })
     }
 
     /// An equal view. In linear time. It refuses only if memory runs out.

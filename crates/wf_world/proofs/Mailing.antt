@@ -1,5 +1,5 @@
 -- What is sent is a letter, and what is delivered may come.
-use Rattle.std.proofs.Common.{◌≡◌, ◌≢◌, ℕ, zero, suc, ◌+◌, ◌<◌, ◌≤◌, ◌==◌, ◌&&◌, ◌||◌, cond, Bool, true, false, List, [], ◌∷◌, ◌++◌, map, length, slice_get, slice_set, Option, Some, None, is_some, refl, sym, ap, ap₂, ◌∙◌, subst, arith, eqb-true}
+use Rattle.std.proofs.Common.{◌≡◌, ◌≢◌, ℕ, zero, suc, ◌+◌, ◌<◌, ◌≤◌, ◌==◌, ◌&&◌, ◌||◌, cond, Bool, true, false, true≢false, List, [], ◌∷◌, ◌++◌, map, drop, find, length, slice_get, slice_set, Option, Some, None, is_some, refl, sym, ap, ap₂, ◌∙◌, subst, arith, eqb-true}
 use Rattle.std.specs.List.{AllByRecursion}
 use Rattle.std.proofs.lemmas.List.{map-append, append_assoc}
 use Rattle.std.proofs.lemmas.List.Folds.{list_any-append}
@@ -28,8 +28,8 @@ use Rattle.wf_slot.specs.Units.{UnitState}
 use Rattle.wf_slot.specs.Slots.{SlotState, held, unit_of, server}
 use Rattle.wf_slot.specs.Answers.{MayCome, Comes, ReceiveAnswers}
 use Rattle.wf_world.specs.declared.mail.Sent.{Sent}
-use Rattle.wf_world.specs.Sent.{brought, is_over}
-use Rattle.wf_world.specs.Mail.{bytes_in, sent_at, message_of, IsMade, IsLetter, AreLetters}
+use Rattle.wf_world.specs.Sent.{brought, bytes_of, is_over}
+use Rattle.wf_world.specs.Mail.{bytes_in, sent_at, is_of, message_of, IsMade, IsLetter, AreLetters}
 use Rattle.wf_world.specs.Machines.{machine_of}
 use Rattle.wf_world.specs.Sounds.{hist_of}
 use Rattle.wf_world.specs.Fleets.{FleetState, units_of, machine_at, slot_at, IsFleet, ahead, IsWorn, AreWorn, WearsNone, Leads, IsPost, Posts, Overflows, Follows, IsPast}
@@ -58,6 +58,26 @@ all_at P (y ∷ ys) (suc n) x all at = all_at P ys n x all.1 at
 all_push : {A : Type 0} (P : A → Type 0) (xs : List A) (x : A) → AllByRecursion P xs → P x → AllByRecursion P (xs ++ x ∷ [])
 all_push P [] x all it = (it, tt)
 all_push P (y ∷ ys) x all it = (all.0, all_push P ys x all.1 it)
+
+-- what a search finds passes its test, and what holds of all holds of it
+found_all : {A : Type 0} (P : A → Type 0) (test : A → Bool) (xs : List A) (x : A) → AllByRecursion P xs → find test xs ≡ Some x → P x × (test x ≡ true)
+found_all P test [] x all is = absurd (none_some x is)
+found_all {A} P test (y ∷ ys) x all is = go (test y) refl (found_all P test ys x all.1)
+  where
+    go : (b : Bool) → test y ≡ b → (find test ys ≡ Some x → P x × (test x ≡ true)) → P x × (test x ≡ true)
+    go true e on =
+        let same : y ≡ x = some_same y x (ap (λ (b : Bool). cond b (Some y) (find test ys)) (sym e) ∙ is) in
+        (subst P same all.0, ap test (sym same) ∙ e)
+    go false e on = on (ap (λ (b : Bool). cond b (Some y) (find test ys)) (sym e) ∙ is)
+
+all_drop : {A : Type 0} (P : A → Type 0) (n : ℕ) (xs : List A) → AllByRecursion P xs → AllByRecursion P (drop n xs)
+all_drop P zero xs all = all
+all_drop P (suc n) [] all = tt
+all_drop P (suc n) (x ∷ xs) all = all_drop P n xs all.1
+
+both_true : (a b : Bool) → (a && b) ≡ true → (a ≡ true) × (b ≡ true)
+both_true true b e = (refl, e)
+both_true false b e = absurd (true≢false (sym e))
 
 -- ONE LETTER MORE
 module _ (f : FleetState) (is : IsFleet f) (x : Sent) (it : IsLetter f.chart (machine_at f) x) where
@@ -282,6 +302,43 @@ module _ (f : FleetState) (is : IsFleet f) (from to : UnitId) (s : SlotState) (a
   second_past zero g first over some other up = absurd (other refl)
   second_past (suc i) g first over some other up = second_past_by i first.x first.post first.few (subst (λ (x : FleetState). Overflows x from to (suc i + 1)) first.after over) some up
 
+-- WHAT WAS SENT BEFORE
+
+-- a message that was sent is the letter of its step again
+pub sent_again : (f : FleetState) (from to : UnitId) (step : ℕ) (y : Sent) (bytes : List ℕ) → IsLetter f.chart (machine_at f) y → is_of from.0 to.0 step y ≡ true → bytes ≡ y.bytes →
+    IsPost f from to step (record { sender = from; receiver = to; step = step; bytes = bytes })
+sent_again f from to step y bytes it of same =
+    let outer = both_true ((y.step == step) && (y.sender.0 == from.0)) (y.receiver.0 == to.0) of in
+    let inner = both_true (y.step == step) (y.sender.0 == from.0) outer.0 in
+    let is : message_of y ≡ record { sender = from.0; receiver = to.0; step = step } =
+    ap (λ (j : ℕ). message y.sender.0 y.receiver.0 j) (eqb-true y.step step inner.0)
+    ∙ ap₂ (λ (u v : ℕ). message u v step) (eqb-true y.sender.0 from.0 inner.1) (eqb-true y.receiver.0 to.0 outer.1) in
+    record {
+      message = refl;
+      letter = record {
+        made = subst (IsMade (machine_at f)) is it.made;
+        bytes = same ∙ it.bytes ∙ ap (bytes_of f.chart (machine_at f)) is;
+        whole = subst (λ (m : Message). IsUpdate (brought f.chart (machine_at f) m)) is it.whole;
+      };
+    }
+  where
+    message : ℕ → ℕ → ℕ → Message
+    message u v j = record { sender = u; receiver = v; step = j }
+
+pub recent_again : (f : FleetState) (is : IsFleet f) (from to : UnitId) (step n : ℕ) (y : Sent) (bytes : List ℕ) → find (is_of from.0 to.0 step) (drop n f.messages) ≡ Some y → bytes ≡ y.bytes →
+    IsPost f from to step (record { sender = from; receiver = to; step = step; bytes = bytes })
+recent_again f is from to step n y bytes found same =
+    let it = found_all (IsLetter f.chart (machine_at f)) (is_of from.0 to.0 step) (drop n f.messages) y (all_drop (IsLetter f.chart (machine_at f)) n f.messages is.letters) found in
+    sent_again f from to step y bytes it.0 it.1 same
+
+-- a letter has a byte
+some_byte : (update : Update) → 1 ≤ length (spelling_of update)
+unfolding spelling_of
+some_byte update = omega arith
+
+pub some_in_post : (f : FleetState) (from to : UnitId) (step : ℕ) (x : Sent) → IsPost f from to step x → 1 ≤ length x.bytes
+some_in_post f from to step x post = subst (λ (bs : List ℕ). 1 ≤ length bs) (sym post.letter.bytes) (some_byte (brought f.chart (machine_at f) (message_of x)))
+
 -- A DELIVERY
 
 -- what has a number is a letter
@@ -371,6 +428,13 @@ module _ (f : FleetState) (is : IsFleet f) (x : Sent) (it : IsLetter f.chart (ma
           suited = ap (λ (p : PartData). suits p update) part_is ∙ made_suits f.chart is.accepted (units_of f.slots) units_count is.sound x.receiver.0 x.sender.0 x.step update lt_v it.made.first made;
         };
       }
+
+  -- its bytes needn't be read where the unit is down, or has taken its step
+  pub down_leads : (n : ℕ) → sent_at f.messages n ≡ Some x → s.health ≡ IsDown → Leads f (line.Deliver n) reply.Down f
+  down_leads n number down = record { chart = refl; machine = (true, deliver_down f.chart (units_of f.slots) f.messages x.receiver (unit_of s) (at_units f is x.receiver.0 s at) true n x number refl down); fleet = is }
+
+  pub old_leads : (n : ℕ) → sent_at f.messages n ≡ Some x → s.health ≢ IsDown → x.step ≤ taken s.past → Leads f (line.Deliver n) reply.Old f
+  old_leads n number up old = record { chart = refl; machine = (true, deliver_old f.chart (units_of f.slots) f.messages x.receiver (unit_of s) (at_units f is x.receiver.0 s at) true n x number refl up old); fleet = is }
 
   -- and comes
   module _ (n : ℕ) (number : sent_at f.messages n ≡ Some x) (t : SlotState) where

@@ -1,5 +1,5 @@
 -- Of other calls. The messages of a world, with their bytes.
-use Rattle.std.specs.Prelude.{◌≡◌, ◌≢◌, ◌<◌, ◌≤◌, ◌+◌, ℕ, zero, suc, List, length, slice_get, Option, None}
+use Rattle.std.specs.Prelude.{◌≡◌, ◌≢◌, ◌<◌, ◌≤◌, ◌+◌, ◌==◌, ◌&&◌, ℕ, zero, suc, Bool, List, length, slice_get, Option, None}
 use Rattle.std.specs.List.{sum_by, AllByRecursion}
 use Rattle.wf_model.specs.Limits.{max_sent}
 use Rattle.wf_model.specs.declared.chart.Chart.{Chart}
@@ -17,6 +17,10 @@ bytes_in messages = sum_by (λ (x : Sent). length x.bytes) messages
 abbrev pub sent_at : List Sent → ℕ → Option Sent
 sent_at messages zero = None
 sent_at messages (suc n) = slice_get messages n
+
+-- it is of this step, from one unit to another
+abbrev pub is_of : ℕ → ℕ → ℕ → Sent → Bool
+is_of u v j x = ((x.step == j) && (x.sender.0 == u)) && (x.receiver.0 == v)
 
 -- this is how many bytes they have; they aren't too many, and each message has one at least
 pub record IsCounted (messages : List Sent) (sent : ℕ) : Type 0 where

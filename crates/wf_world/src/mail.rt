@@ -1,7 +1,8 @@
 //! The messages of a world.
-ghost use Rattle.std.specs.Prelude.{◌≡◌, ◌+◌, ◌<◌, ◌≤◌, ◌∷◌, ◌++◌, [], length, IsErr, IsErrOf, OnOk};
+ghost use Rattle.std.specs.Prelude.{◌≡◌, ◌+◌, ◌-◌, ◌<◌, ◌≤◌, ◌∷◌, ◌++◌, [], length, drop, find, IsErr, IsErrOf, OnOk};
 ghost use Rattle.std.specs.Option.{option_copied};
 ghost use Rattle.wf_model.specs.Limits.{max_sent};
+ghost use Rattle.wf_world.specs.Mail.{is_of};
 
 use crate::ActFault;
 use std::alloc::Global;
@@ -36,6 +37,13 @@ impl Model for Mail {
     ghost view = { λ mail. mail.messages };
 
     ghost invariant = { λ mail. IsCounted mail.messages mail.sent };
+}
+
+// Among these messages the first one of this step from one unit to another, if there is one.
+fn first_of(messages: &[Sent], sender: UnitId, receiver: UnitId, step: u32) -> Option<&Sent>
+    ensures { option_copied result ≡ find (is_of sender.0 receiver.0 step) messages.now }
+{
+    messages.iter().find(|x| x.step == step && x.sender.0 == sender.0 && x.receiver.0 == receiver.0)
 }
 
 impl Mail {
@@ -74,6 +82,15 @@ impl Mail {
             Some(place) => self.messages.get(place as usize),
             None => None,
         }
+    }
+
+    /// Among the last so many messages the first one of this step from one unit to another, if there is one. In linear time in so many.
+    /// Takes no memory.
+    pub fn recent(&self, sender: UnitId, receiver: UnitId, step: u32, last: usize) -> Option<&Sent>
+        ensures { option_copied result ≡ find (is_of sender.0 receiver.0 step) (drop (length self.now - last) self.now) }
+    {
+        let start = self.messages.len().saturating_sub(last);
+        first_of(&self.messages.as_slice()[start..], sender, receiver, step)
     }
 
     /// Adds a message of at least one byte. `SentLimit` exactly if all messages would have more than 256 MiB with it, but

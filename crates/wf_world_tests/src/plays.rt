@@ -5,6 +5,7 @@ ghost use Rattle.wf_scripts.specs.Lines.{lines_of};
 ghost use Rattle.wf_world.specs.Fleets.{DoWork};
 ghost use Rattle.wf_world.specs.States.{DoFit, first_state};
 
+use std::alloc::Global;
 use std::test::Fail;
 use wf_check::check;
 use wf_drive::drive;
@@ -36,12 +37,10 @@ deliver 5
 turn a
 ";
 
-/// The chart.
-pub fn chart_two(rt: &HostRuntime) -> Result<Checked, Fail> {
-    let chart = read_chart(rt.alloc(), TWO.as_bytes())
-        .ok()
-        .ok_or("no chart")?;
-    Ok(check(rt.alloc(), chart).ok().ok_or("not accepted")?)
+/// The accepted chart.
+pub fn chart_two(alloc: Global) -> Option<Checked> {
+    let chart = read_chart(alloc, TWO.as_bytes()).ok()?;
+    check(alloc, chart).ok()
 }
 
 // The world of a chart after these lines, and after its end.
@@ -54,9 +53,14 @@ fn world_after_lines(
     ensures { IfOk result (λ world. DoWork world.slots) }
 {
     let mut world = World::start(rt.alloc(), checked)?;
-    match drive(rt.alloc(), &mut world, lines) {
-        Ok(_) => Ok(world),
-        Err(_) => Err(Fail::from("the play stopped")),
+    let driven = drive(rt.alloc(), &mut world, lines);
+    let is_played = driven.is_ok();
+    drop(driven);
+    if is_played {
+        Ok(world)
+    } else {
+        drop(world);
+        Err(Fail::from("the play stopped"))
     }
 }
 
@@ -80,5 +84,6 @@ pub fn world_after_play(rt: &HostRuntime) -> Result<World, Fail>
     if script.len() > 4000 || line_count(script) > 100 {
         Err("the script is too long")?;
     }
-    world_after(rt, chart_two(rt)?, script)
+    let checked = chart_two(rt.alloc()).ok_or("no chart")?;
+    world_after(rt, checked, script)
 }

@@ -1,13 +1,10 @@
-use Rattle.std.proofs.Common.{◌∙◌, ◌++◌, List, ap}
-use Rattle.wf_model.specs.declared.outer.Outer.{Outer}
-use Rattle.wf_updates.specs.Tables.{told_by}
-use Rattle.wf_updates.specs.After.{entries_from}
-use Rattle.wf_updates.proofs.Tabled.{entries_more}
+use Rattle.std.proofs.Common.{◌≡◌, ◌∙◌, ◌==◌, sym, ap, length, true}
+use Rattle.std.specs.List.{list_all}
+use Rattle.wf_views.specs.Knowledge.{known_to}
+use Rattle.wf_updates.proofs.Tabled.{none_entered}
 use Rattle.wf_updates.proofs.after.next_after.Goals as goal
 
-pub loop-update-preserved : goal.loop-update-preserved
-loop-update-preserved c =
-    let u = c.update-item.result in
-    entries_more (told_by c.args.known.now) c.args.all.now c.loop-update.update-index u c.loop-update.entries c.add_entries.new.entries c.loop-update-test.true c.update-item.is c.loop-update.invariant
-    (c.in_ok-add_entries.ensures
-    ∙ ap (λ (l : List Outer). c.loop-update.entries ++ entries_from (told_by c.args.known.now) u.from l) c.as_slice.ensures)
+pub returns-then-have_no_outer : goal.returns-then-have_no_outer
+returns-then-have_no_outer c =
+    let none : list_all (λ update. length update.outer == 0) c.args.all.now ≡ true = sym c.have_no_outer.ensures ∙ c.if-have_no_outer.true in
+    c.new.ensures ∙ none_entered (known_to c.args.part.now) c.args.all.now none

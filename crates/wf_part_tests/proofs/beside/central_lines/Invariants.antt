@@ -1,5 +1,0 @@
-use Rattle.wf_central.specs.Kept.{IsOf}
-use Rattle.wf_part_tests.proofs.beside.central_lines.Given as goal
-
-abbrev pub invariant-loop-entries : goal.invariant-loop-entries
-invariant-loop-entries l = IsOf l.run.checked l.sides.state

@@ -1,0 +1,5 @@
+mod Records
+mod Readings
+mod Texts
+mod Leaving
+mod Finishing

@@ -1,0 +1,6 @@
+pub mod Lines
+pub mod TrailText
+pub mod Images
+pub mod Shelves
+pub mod Telling
+pub mod Refusals

@@ -1,0 +1,26 @@
+-- Of other calls. What a trail leaves of a shelf.
+use Rattle.std.specs.Prelude.{◌≡◌, ◌<◌, List, ℕ, None, Some}
+use Rattle.wf_disk.specs.Shelf.{ShelfTold}
+use Rattle.wf_trail.specs.declared.fault.TrailFault.{TrailFault}
+use Rattle.wf_trail.specs.declared.fault.TrailFault.TheVariants as f
+
+-- the shelf tells these images of all disks that stand on it
+abbrev pub Tells : ShelfTold → (List ℕ → List ℕ) → Type 0
+Tells shelf images = (name : List ℕ) → shelf.taken_at name ≡ None → shelf.image name ≡ Some (images name)
+
+-- each disk stands where it stood, or is out as it was, and has the image that it had
+pub record KeepsDisks (old new : ShelfTold) : Type 0 where
+  pub image : (name : List ℕ) → new.image name ≡ old.image name
+  pub taken_at : (name : List ℕ) → new.taken_at name ≡ old.taken_at name
+
+-- the fault is that of a disk, or of the shelf
+abbrev pub IsOfDisk : TrailFault → Type 0
+IsOfDisk (f.DiskFailed unit) = Unit {0}
+IsOfDisk _ = ⊥
+
+-- the unit that a fault names, if it names one, is one of so many
+abbrev pub IsOfUnits : ℕ → TrailFault → Type 0
+IsOfUnits units (f.DiskFailed unit) = unit.0 < units
+IsOfUnits units (f.Foreign unit kept wanted) = unit.0 < units
+IsOfUnits units (f.Bad unit at first) = unit.0 < units
+IsOfUnits units _ = Unit {0}

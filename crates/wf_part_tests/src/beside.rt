@@ -402,7 +402,8 @@ fn append_steps(
 
 // Checks the lines of the central run, from both sides before the first step.
 fn check_lines(
-    rt: &impl Abort, alloc: Global,
+    rt: &impl Abort,
+    alloc: Global,
     checked: &Checked,
     parts: &[Part],
     sides: &mut Sides,
@@ -457,7 +458,8 @@ fn begin_so(alloc: Global, parts: &[Part], updates: &[Update]) -> Result<bool, N
 
 // Checks that the units' shares are what their parts do side by side, and their first ones what each part does alone.
 fn check_shares(
-    rt: &impl Abort, alloc: Global,
+    rt: &impl Abort,
+    alloc: Global,
     parts: &[Part],
     outer: &[List<Entry>],
     steps: &List<List<Update>>,
@@ -477,7 +479,8 @@ fn check_shares(
 /// Checks that the units' shares are what their parts do side by side, and that the central run has
 /// these lines. A line says so if the units differ.
 pub fn check_central(
-    rt: &impl Abort, alloc: Global,
+    rt: &impl Abort,
+    alloc: Global,
     checked: &Checked,
     parts: &[Part],
     outer: &[List<Entry>],
@@ -487,7 +490,8 @@ pub fn check_central(
     check_shares(rt, alloc, parts, outer, steps)?;
     let mut sides = first_sides(alloc, checked, parts)?;
     check_lines(
-        rt, alloc,
+        rt,
+        alloc,
         checked,
         parts,
         &mut sides,

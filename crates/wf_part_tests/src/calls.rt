@@ -30,7 +30,8 @@ fn component_line(
 
 // Checks the line of a component.
 fn check_line(
-    rt: &impl Abort, alloc: Global,
+    rt: &impl Abort,
+    alloc: Global,
     checked: &Checked,
     flat: &Flat,
     state: u32,
@@ -50,7 +51,12 @@ const COMPONENTS: [(u32, &str); 3] = [
     (2, "component Q out enter t0 leave\n"),
 ];
 
-fn check_components(rt: &impl Abort, alloc: Global, checked: &Checked, flat: &Flat) -> Result<(), Fail>
+fn check_components(
+    rt: &impl Abort,
+    alloc: Global,
+    checked: &Checked,
+    flat: &Flat,
+) -> Result<(), Fail>
     requires { flat.now ≡ flat_of checked.now }
 {
     for (state, wanted) in COMPONENTS {
@@ -133,7 +139,8 @@ fn check_reads(rt: &impl Abort, alloc: Global, view: &View, copy: &View) -> Resu
 
 // Checks the first view of a unit, once it has taken in the updates of the first step.
 fn check_after(
-    rt: &impl Abort, alloc: Global,
+    rt: &impl Abort,
+    alloc: Global,
     part: &Part,
     view: &mut View,
     updates: &[Update],
@@ -148,7 +155,8 @@ fn check_after(
 /// Checks the reads of the first unit's view after one step: that state 4 is in, and in the next step
 /// variable 0 is 9, no item of activity 0 is open and one is completed, and event 1 is there.
 pub fn check_view(
-    rt: &impl Abort, alloc: Global,
+    rt: &impl Abort,
+    alloc: Global,
     parts: &[Part],
     steps: &List<List<Update>>,
 ) -> Result<(), Fail> {

@@ -199,7 +199,8 @@ fn append_steps(
 
 // Checks the lines of all steps, in an empty text.
 fn check_lines(
-    rt: &impl Abort, alloc: Global,
+    rt: &impl Abort,
+    alloc: Global,
     text: &mut Bytes,
     chart: &Chart,
     parts: &[Part],
@@ -213,7 +214,8 @@ fn check_lines(
 
 /// Checks the lines of all steps: the update of each unit, and below it what each peer is sent of it.
 pub fn check_told(
-    rt: &impl Abort, alloc: Global,
+    rt: &impl Abort,
+    alloc: Global,
     chart: &Chart,
     parts: &[Part],
     steps: &[List<Update>],

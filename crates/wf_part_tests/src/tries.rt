@@ -27,7 +27,8 @@ pub enum Wanted {
 
 // Checks what is to be seen in the steps of a run.
 fn check_steps(
-    rt: &impl Abort, alloc: Global,
+    rt: &impl Abort,
+    alloc: Global,
     checked: &Checked,
     parts: &[Part],
     outer: &[List<Entry>],
@@ -36,14 +37,22 @@ fn check_steps(
 ) -> Result<(), Fail> {
     match wanted {
         Wanted::Central(lines) => check_central(rt, alloc, checked, parts, outer, steps, lines),
-        Wanted::Told(lines) => check_told(rt, alloc, checked.chart(), parts, steps.as_slice(), lines),
+        Wanted::Told(lines) => check_told(
+            rt,
+            alloc,
+            checked.chart(),
+            parts,
+            steps.as_slice(),
+            lines,
+        ),
         Wanted::View => check_view(rt, alloc, parts, steps),
     }
 }
 
 // Checks a run of these parts.
 fn check_parts(
-    rt: &impl Abort, alloc: Global,
+    rt: &impl Abort,
+    alloc: Global,
     checked: &Checked,
     parts: &[Part],
     outer: &[List<Entry>],
@@ -57,7 +66,8 @@ fn check_parts(
 
 // Checks the run of a script.
 fn check_script(
-    rt: &impl Abort, alloc: Global,
+    rt: &impl Abort,
+    alloc: Global,
     checked: &Checked,
     parts: &[Part],
     script: &str,
@@ -71,7 +81,8 @@ fn check_script(
 
 // Checks the run of a script over an accepted chart.
 fn check_checked(
-    rt: &impl Abort, alloc: Global,
+    rt: &impl Abort,
+    alloc: Global,
     checked: &Checked,
     script: &str,
     wanted: Wanted,
@@ -81,7 +92,13 @@ fn check_checked(
 }
 
 /// Checks what is to be seen in the run of a script over a chart.
-pub fn check_run(rt: &impl Abort, alloc: Global, chart: &str, script: &str, wanted: Wanted) -> Result<(), Fail> {
+pub fn check_run(
+    rt: &impl Abort,
+    alloc: Global,
+    chart: &str,
+    script: &str,
+    wanted: Wanted,
+) -> Result<(), Fail> {
     let checked = checked_of(alloc, chart)?;
     check_checked(rt, alloc, &checked, script, wanted)
 }

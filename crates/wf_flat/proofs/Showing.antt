@@ -8,12 +8,12 @@ use Rattle.wf_model.specs.Bits.{bit}
 use Rattle.wf_parts.specs.declared.data.KnownState.{KnownState}
 use Rattle.wf_parts.specs.declared.data.PartData.{PartData}
 use Rattle.wf_semantics.specs.Snapshot.{Snapshot}
-use Rattle.wf_views.specs.Views.{View, sees, is_inside, count_now, is_done_now, is_there_now}
+use Rattle.wf_views.specs.Views.{View, sees, var_now, open_now, is_inside, count_now, is_done_now, is_there_now}
 use Rattle.wf_updates.specs.Tables.{entry}
 use Rattle.wf_flat.specs.Sights.{seen_by}
 
 pub sees_shown : (part : PartData) (view : View) (known inside : List Bool) (vars : List (Option Val)) (unclosed : List (Option ℕ)) (done there : List Bool)
-    → bit known ≡ (λ k. list_any (λ (state : KnownState). state.id.0 == k) part.states) → bit inside ≡ is_inside view → entry vars ≡ (sees part view).seen.var → entry unclosed ≡ (sees part view).seen.count
+    → bit known ≡ (λ k. list_any (λ (state : KnownState). state.id.0 == k) part.states) → bit inside ≡ is_inside view → entry vars ≡ var_now view → entry unclosed ≡ open_now view
     → bit done ≡ is_done_now view → bit there ≡ is_there_now view
     → let shown : Snapshot = record { seen = seen_by known inside vars unclosed done; there = bit there } in shown ≡ sees part view
 unfolding sees

@@ -4,7 +4,7 @@
 //!   as the definition says, or runs out of memory and leaves the view as it was. `relevant`
 //!   answers what a peer is sent of an update.
 //! - Doesn't say: that it finds memory. `absorb` asks that no count passes 32 bits.
-//! - A caller: `wf_steps` keeps a unit's view from turn to turn. No command makes one.
+//! - A caller: `wf_steps` keeps a unit's view from turn to turn, for `mentor play`.
 //! - A change begins here if a step is to be taken in in another way. What it does is defined in
 //!   `wf_views`.
 #![tactic(auto)]

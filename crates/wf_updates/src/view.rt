@@ -1,8 +1,7 @@
 //! What a unit knows between its steps.
 ghost use Rattle.std.specs.Prelude.{◌≡◌, ◌+◌, ◌<◌, ◌^◌, All, IfOk, OnOk, OnErr};
 ghost use Rattle.wf_model.specs.Bits.{bit};
-ghost use Rattle.wf_parts.specs.declared.data.PartData.{PartData};
-ghost use Rattle.wf_views.specs.Views.{first_view, count_now, sees, is_inside, is_done_now, is_there_now};
+ghost use Rattle.wf_views.specs.Views.{first_view, count_now, var_now, open_now, is_inside, is_done_now, is_there_now};
 ghost use Rattle.wf_updates.specs.Tables.{entry};
 ghost use Rattle.wf_views.specs.Absorbing.{absorbed, start_count, starts_in};
 
@@ -155,7 +154,7 @@ impl View {
     /// A table of the values of the variables, as the next step sees them: once its outputs came. In linear time in the view and in the
     /// greatest number of its variables, and then each is read in constant time.
     pub fn vars_now(&self, alloc: Global) -> Result<List<Option<Val>>, NoMemory>
-        ensures { IfOk result (λ table. (part : PartData) → entry table ≡ (sees part self.now).seen.var) }
+        ensures { IfOk result (λ table. entry table ≡ var_now self.now) }
     {
         values_now(alloc, self.vars.as_slice(), self.next.as_slice())
     }
@@ -163,7 +162,7 @@ impl View {
     /// A table of the counts of open items, as the next step sees them: once its completions came. In linear time in the view and
     /// in the greatest number of its activities, and then each is read in constant time.
     pub fn open_counts_now(&self, alloc: Global) -> Result<List<Option<u32>>, NoMemory>
-        ensures { IfOk result (λ table. (part : PartData) → entry table ≡ (sees part self.now).seen.count) }
+        ensures { IfOk result (λ table. entry table ≡ open_now self.now) }
     {
         counts_now(alloc, self.unclosed.as_slice(), self.next.as_slice())
     }

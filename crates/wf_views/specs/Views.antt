@@ -1,5 +1,5 @@
 -- Of other calls. What a unit keeps between its steps, and what its next step sees of it.
-use Rattle.std.specs.Prelude.{ℕ, ◌-◌, ◌==◌, ◌||◌, nat_lt, Bool, List, [], ◌∷◌, map, filter, flat_map, find, option_map, Some, None, if◌then◌else◌}
+use Rattle.std.specs.Prelude.{ℕ, ◌-◌, ◌==◌, ◌||◌, nat_lt, Bool, List, [], ◌∷◌, map, filter, flat_map, find, Option, option_map, Some, None, if◌then◌else◌}
 use Rattle.std.specs.List.{list_any}
 use Rattle.wf_model.specs.declared.ids.StateId.{StateId}
 use Rattle.wf_model.specs.declared.ids.EventId.{EventId}
@@ -68,6 +68,13 @@ value_now view o = after_outputs o.var.0 (outputs_in view.next) o.val
 abbrev pub count_now : View → ActId × ℕ → ℕ
 count_now view a = a.1 - done_count a.0.0 (completions_in view.next)
 
+-- the same of a variable, and of an activity, that the view may not have
+abbrev pub var_now : View → ℕ → Option Val
+var_now view x = option_map (value_now view) (find (λ o. o.var.0 == x) view.vars)
+
+abbrev pub open_now : View → ℕ → Option ℕ
+open_now view a = option_map (count_now view) (find (λ c. c.0.0 == a) view.unclosed)
+
 -- some entry of the next step completes an item of activity a
 abbrev pub is_done_now : View → ℕ → Bool
 is_done_now view a = nat_lt 0 (done_count a (completions_in view.next))
@@ -81,8 +88,8 @@ sees part view =
     record {
       seen = record {
         state = λ s. if (known_to part).states s then Some (is_inside view s) else None;
-        var = λ x. option_map (value_now view) (find (λ o. o.var.0 == x) view.vars);
-        count = λ a. option_map (count_now view) (find (λ c. c.0.0 == a) view.unclosed);
+        var = var_now view;
+        count = open_now view;
         done = λ a. option_map (λ c. is_done_now view a) (find (λ c. c.0.0 == a) view.unclosed);
       };
       there = is_there_now view;

@@ -9,4 +9,4 @@ returns c =
     let part = c.args.part.now in
     let listed = λ (states : List KnownState). let f : ℕ → Bool = λ k. list_any (λ (state : KnownState). state.id.0 == k) states in f in
     sees_shown part c.args.view.now c.in_ok-known.known c.in_ok-inside.inside c.in_ok-vars.vars c.in_ok-unclosed.unclosed c.in_ok-done.done c.in_ok-there.there
-    (c.in_ok-known.ensures ∙ ap listed c.as_slice.ensures) c.in_ok-inside.ensures (c.in_ok-vars.ensures part) (c.in_ok-unclosed.ensures part) c.in_ok-done.ensures c.in_ok-there.ensures
+    (c.in_ok-known.ensures ∙ ap listed c.as_slice.ensures) c.in_ok-inside.ensures c.in_ok-vars.ensures c.in_ok-unclosed.ensures c.in_ok-done.ensures c.in_ok-there.ensures

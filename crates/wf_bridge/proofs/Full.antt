@@ -13,36 +13,37 @@ use Rattle.wf_machine.proofs.Sent.{taken_was_sent}
 use Rattle.wf_histories.specs.Histories.{Admission, TurnDone, taken}
 use Rattle.wf_histories.specs.Agreement.{peers}
 use Rattle.wf_worlds.specs.Worlds.{letter}
-use Rattle.wf_bridge.specs.Full.{MAX_OUTER, frame_length, JournalNeverFull}
+use Rattle.wf_worlds.specs.Ends.{IsShort, frame_size}
+use Rattle.wf_bridge.specs.Full.{JournalNeverFull}
 use Rattle.wf_bridge.proofs.Bridging.{taken_is}
 
-head_length : (name unit : List ℕ) → frame_length (entry.Head 1 name unit) ≡ 9 + length name + length unit
+head_length : (name unit : List ℕ) → frame_size (entry.Head 1 name unit) ≡ 9 + length name + length unit
 unfolding record_spelling
 head_length name unit = let a = length-append (named name) (named unit) in omega (arith, a)
 
-admit_length : (a : Admission) → frame_length (entry.Admit a.request a.outer) ≡ 14 + length (outer_spelling a.outer)
+admit_length : (a : Admission) → frame_size (entry.Admit a.request a.outer) ≡ 14 + length (outer_spelling a.outer)
 unfolding record_spelling
 admit_length a = let b = length-append (eight a.request) (outer_spelling a.outer) in omega (arith, b)
 
-turn_length : (turn : TurnDone) → frame_length (entry.Turn turn.step turn.inputs turn.sealed) ≡ 13 + length (flat_map spelling_of turn.inputs)
+turn_length : (turn : TurnDone) → frame_size (entry.Turn turn.step turn.inputs turn.sealed) ≡ 13 + length (flat_map spelling_of turn.inputs)
 unfolding record_spelling
 turn_length turn =
     let a = length-append (four turn.step) (length turn.inputs ∷ flat_map spelling_of turn.inputs ++ two turn.sealed) in
     let b = length-append (flat_map spelling_of turn.inputs) (two turn.sealed) in omega (arith, a, b)
 
-admissions_few : (xs : List Admission) → AllByRecursion (λ (a : Admission). length (outer_spelling a.outer) ≤ MAX_OUTER) xs → sum_by (λ (a : Admission). frame_length (entry.Admit a.request a.outer)) xs ≤ (14 + MAX_OUTER) * length xs
+admissions_few : (xs : List Admission) → AllByRecursion (λ (a : Admission). IsShort a.outer) xs → sum_by (λ (a : Admission). frame_size (entry.Admit a.request a.outer)) xs ≤ 566 * length xs
 admissions_few [] h = omega arith
 admissions_few (a ∷ xs) h =
-    let s = sum_by-cons (λ (a : Admission). frame_length (entry.Admit a.request a.outer)) a xs in
-    let l = admit_length a in let f = h.0 in let ih = admissions_few xs h.1 in omega (arith, s, l, f, ih)
+    let s = sum_by-cons (λ (a : Admission). frame_size (entry.Admit a.request a.outer)) a xs in
+    let l = admit_length a in let f : length (outer_spelling a.outer) ≤ 552 = h.0 in let ih = admissions_few xs h.1 in omega (arith, s, l, f, ih)
 
 abbrev bytes_of : List Update → ℕ
 bytes_of ups = length (flat_map spelling_of ups)
 
-turns_are : (turns : List TurnDone) → sum_by (λ (turn : TurnDone). frame_length (entry.Turn turn.step turn.inputs turn.sealed)) turns ≡ 13 * length turns + sum_by bytes_of (map (λ (t : TurnDone). t.inputs) turns)
+turns_are : (turns : List TurnDone) → sum_by (λ (turn : TurnDone). frame_size (entry.Turn turn.step turn.inputs turn.sealed)) turns ≡ 13 * length turns + sum_by bytes_of (map (λ (t : TurnDone). t.inputs) turns)
 turns_are [] = omega arith
 turns_are (t ∷ turns) =
-    let s = sum_by-cons (λ (turn : TurnDone). frame_length (entry.Turn turn.step turn.inputs turn.sealed)) t turns in
+    let s = sum_by-cons (λ (turn : TurnDone). frame_size (entry.Turn turn.step turn.inputs turn.sealed)) t turns in
     let r = sum_by-cons bytes_of t.inputs (map (λ (t : TurnDone). t.inputs) turns) in
     let l = turn_length t in let ih = turns_are turns in omega (arith, s, r, l, ih)
 
@@ -64,7 +65,8 @@ letters_length f (v ∷ vs) =
     let ih = letters_length f vs in omega (arith, a, b, ih)
 
 pub journal_never_full : JournalNeverFull
-journal_never_full chart m h u name unit are c is lt few small name_short unit_short sent =
+unfolding end_of_history
+journal_never_full chart m h u part are c is lt few small name_short unit_short sent =
     let n : ℕ = length chart.units in
     let size : ℕ → ℕ → ℕ → ℕ = λ v w j. length (spelling_of (letter chart h v w j)) in
     let ins : List (List Update) = map (λ (t : TurnDone). t.inputs) (h u).turns in
@@ -79,7 +81,7 @@ journal_never_full chart m h u name unit are c is lt few small name_short unit_s
     let all = taken_was_sent m size u is (let q = c.units in omega (arith, lt, q)) in
     let here : sum_by (λ j. sum_by (λ v. size v u j) (peers n u)) (range_with_len 1 (length ins)) ≡ sum_by (λ j. sum_by (λ v. size v u j) (filter (λ v. not (v == u)) (range_with_len 0 (length m.servers)))) (range_with_len 1 (steps_taken (server m u))) =
     ap₂ (λ (k t : ℕ). sum_by (λ j. sum_by (λ v. size v u j) (filter (λ v. not (v == u)) (range_with_len 0 k))) (range_with_len 1 t)) (sym c.units) (long ∙ sym (taken_is m n h c u lt)) in
-    let a = head_length name unit in
+    let a = head_length part.chart part.name in
     let b = admissions_few (h u).admissions small in
     let t = turns_are (h u).turns in
     omega (arith, a, b, t, turned, kept, all, here, few, name_short, unit_short, sent)

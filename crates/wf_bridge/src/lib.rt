@@ -5,7 +5,7 @@
 //!   its admissions, sights, items, letters and merged list. Within the limits on lines, messages
 //!   and outers no journal gets full. Each public function is a law and has nothing to do.
 //! - Doesn't say: anything of the ending of a play, or of any program.
-//! - A caller: none; no crate depends on it.
+//! - A caller: `wf_slot` and `wf_world`, whose servers show what the machine counts.
 //! - A change of the machine or of histories shows here.
 #![tactic(auto)]
 

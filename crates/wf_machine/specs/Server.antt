@@ -86,7 +86,7 @@ broken arms.Fail s = record s { health = Failed; fuse = None }
 broken (arms.Crash outcome) s = record (fallen s) { fuse = None }
 
 -- the third stroke of a write opens the record's gate: from it on the record is in doubt
-abbrev pub doubted : ℕ → Record → Option Record
+abbrev pub doubted : {A : Type 0} → ℕ → A → Option A
 doubted n r = if nat_lt n 3 then None else Some r
 
 abbrev pub written_by : Record → Server → Met → Option Bar × Server

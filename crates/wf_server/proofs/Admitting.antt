@@ -14,7 +14,7 @@ use Rattle.wf_histories.specs.Histories.{History}
 use Rattle.wf_worlds.specs.Admitting.{lets_in}
 use Rattle.wf_steps.specs.Growing.{place_of, MayAdmit}
 use Rattle.wf_steps.specs.Records.{after}
-use Rattle.wf_steps.specs.Ends.{frame_size}
+use Rattle.wf_worlds.specs.Ends.{frame_size}
 use Rattle.wf_server.specs.declared.fault.Admitted.{Admitted}
 use Rattle.wf_server.specs.declared.fault.Admitted.TheVariants.{New, Again}
 use Rattle.wf_server.specs.declared.fault.AdmitFault.{AdmitFault}

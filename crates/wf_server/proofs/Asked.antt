@@ -12,7 +12,7 @@ use Rattle.wf_journal.proofs.Answered.{not_refused}
 use Rattle.wf_codec.specs.declared.record.JournalRecord.{JournalRecord}
 use Rattle.wf_codec.specs.Records.{record_spelling}
 use Rattle.wf_codec.specs.Bodies.{IsBodyOf}
-use Rattle.wf_steps.specs.Ends.{frame_size}
+use Rattle.wf_worlds.specs.Ends.{frame_size}
 use Rattle.wf_server.proofs.Standing.{Appended}
 use Rattle.wf_server.proofs.Runs.{refusal_by, asked_by, never_long}
 

@@ -8,7 +8,7 @@ use Rattle.wf_parts.specs.declared.data.PartData.{PartData}
 use Rattle.wf_histories.specs.Histories.{History}
 use Rattle.wf_steps.specs.declared.fault.RecoverFault.{RecoverFault}
 use Rattle.wf_steps.specs.Records.{history_of}
-use Rattle.wf_steps.specs.Ends.{end_of_history}
+use Rattle.wf_worlds.specs.Ends.{end_of_history}
 use Rattle.wf_steps.specs.Recovering.{IsFault, OfImage, EndsAt}
 use Rattle.wf_server.specs.Starting.{has_none}
 use Rattle.wf_server.specs.Heads.{KeepsHistory, Stretch, HeadStrokes, most_head, IsStill, IsEmpty, IsBegun, IsOpen}

@@ -5,7 +5,7 @@ use Rattle.wf_model.specs.declared.update.Update.{Update}
 use Rattle.wf_disk.specs.Disk.{Told}
 use Rattle.wf_journal.specs.State.{Kept, IsReady as IsReadyJournal}
 use Rattle.wf_journal.specs.Frames.{end_of}
-use Rattle.wf_steps.specs.Ends.{end_of_history}
+use Rattle.wf_worlds.specs.Ends.{end_of_history}
 use Rattle.wf_parts.specs.declared.data.PartData.{PartData}
 use Rattle.wf_histories.specs.Histories.{History, taken}
 use Rattle.wf_steps.specs.Room.{Replicated}

@@ -19,7 +19,7 @@ use Rattle.wf_parts.specs.declared.data.PartData.{PartData}
 use Rattle.wf_histories.specs.Histories.{History}
 use Rattle.wf_steps.specs.declared.fault.RecoverFault.{RecoverFault}
 use Rattle.wf_steps.specs.Records.{after, history_of}
-use Rattle.wf_steps.specs.Ends.{end_of_history}
+use Rattle.wf_worlds.specs.Ends.{end_of_history}
 use Rattle.wf_steps.proofs.Ends.{end_grows}
 use Rattle.wf_server.specs.Images.{Begins, Holds, HoldsEither, HoldsOn, IsOnly, Stands, IsPlaced, CrashLeaves}
 use Rattle.wf_server.proofs.Reading.{can_start_whole, image_more, image_same}

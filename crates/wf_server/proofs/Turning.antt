@@ -25,7 +25,7 @@ use Rattle.wf_server.specs.declared.fault.TurnFault.TheVariants as turns
 use Rattle.wf_server.specs.Servers.{Server, told_by, inputs_of, held, held_in, turn_record, with_turn}
 use Rattle.wf_server.specs.Images.{Stands, IsPlaced, CrashLeaves}
 use Rattle.wf_server.specs.Running.{RunsOn}
-use Rattle.wf_steps.specs.Ends.{frame_size, longest_turn}
+use Rattle.wf_worlds.specs.Ends.{frame_size, longest_turn}
 use Rattle.wf_server.specs.Answers.{CanTurn, TurnAnswers, untaken_by}
 use Rattle.wf_server.proofs.Beginnings.{begins_turned}
 use Rattle.wf_server.proofs.Standing.{Written, Appended, crash_none, crash_append, healthy_ok, placed_ok, placed_err, stands_ok, stands_err}

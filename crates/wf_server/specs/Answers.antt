@@ -13,7 +13,7 @@ use Rattle.wf_journal.specs.Faults.{refusal_of}
 use Rattle.wf_histories.specs.Histories.{Admission, History, taken}
 use Rattle.wf_worlds.specs.Admitting.{lets_in}
 use Rattle.wf_steps.specs.Growing.{place_of}
-use Rattle.wf_steps.specs.Ends.{longest_turn}
+use Rattle.wf_worlds.specs.Ends.{longest_turn}
 use Rattle.wf_server.specs.declared.fault.Admitted.{Admitted}
 use Rattle.wf_server.specs.declared.fault.Admitted.TheVariants.{New, Again}
 use Rattle.wf_server.specs.declared.fault.AdmitFault.{AdmitFault}

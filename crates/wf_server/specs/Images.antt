@@ -6,7 +6,7 @@ use Rattle.wf_journal.specs.State.{Kept}
 use Rattle.wf_parts.specs.declared.data.PartData.{PartData}
 use Rattle.wf_histories.specs.Histories.{History}
 use Rattle.wf_steps.specs.Records.{history_of}
-use Rattle.wf_steps.specs.Ends.{end_of_history}
+use Rattle.wf_worlds.specs.Ends.{end_of_history}
 
 -- IT HOLDS THIS HISTORY, behind a head, and each open gate has its whole frame. So a start over it is one stroke, and recovers the history.
 pub record Holds (part : PartData) (past : History) (file : List ℕ) : Type 0 where

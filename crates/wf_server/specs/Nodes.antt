@@ -7,7 +7,7 @@ use Rattle.wf_disk.specs.Disk.{Told}
 use Rattle.wf_journal.specs.State.{Kept}
 use Rattle.wf_histories.specs.Histories.{taken}
 use Rattle.wf_steps.specs.Room.{Replicated}
-use Rattle.wf_steps.specs.Ends.{longest_turn}
+use Rattle.wf_worlds.specs.Ends.{longest_turn}
 use Rattle.wf_steps.specs.Growing.{MayTurn}
 use Rattle.wf_steps.specs.Replicas.{prepared_of}
 use Rattle.wf_server.specs.declared.node.Ready.{Ready}

@@ -5,7 +5,6 @@ use Rattle.wf_model.specs.Faults.{last_count}
 use Rattle.wf_model.specs.declared.outer.Outer.{Outer}
 use Rattle.wf_model.specs.declared.outer.OuterFault.{OuterFault}
 use Rattle.wf_model.specs.declared.outer.OuterFault.TheVariants as outers
-use Rattle.wf_codec.specs.Spelling.{outer_spelling}
 use Rattle.wf_disk.specs.Memory.{Held, told_of, image_of, disarmed}
 use Rattle.wf_parts.specs.declared.data.PartData.{PartData}
 use Rattle.wf_machine.specs.declared.reply.Reply.{Reply}
@@ -14,7 +13,7 @@ use Rattle.wf_machine.specs.Strokes.{Done, strokes}
 use Rattle.wf_histories.specs.Histories.{Admission, History}
 use Rattle.wf_worlds.specs.Growing.{admitted}
 use Rattle.wf_worlds.specs.Worlds.{Admits}
-use Rattle.wf_bridge.specs.Full.{MAX_OUTER}
+use Rattle.wf_worlds.specs.Ends.{IsShort}
 use Rattle.wf_server.specs.Servers.{Server, with_admission}
 use Rattle.wf_server.specs.Images.{Holds, CrashLeaves}
 use Rattle.wf_server.specs.Running.{RunsOn}
@@ -41,7 +40,7 @@ module _ (node : Server Held) (fuse : Option Kept) (request : ℕ) (outer : Oute
   abbrev a : Admission
   a = record { request = request; outer = outer }
 
-  pub let_in : IsNewRequest node request outer (Ok tt) → length (outer_spelling outer) ≤ MAX_OUTER → IsLetIn (up node fuse) a
+  pub let_in : IsNewRequest node request outer (Ok tt) → IsShort outer → IsLetIn (up node fuse) a
   let_in is short = record { fresh = is.fresh; lets = is.lets; short = short }
 
   -- the server stayed as it was

@@ -19,7 +19,7 @@ use Rattle.wf_slot.specs.Slots.{fallen}
 use Rattle.wf_slot.specs.Seats.{record_of, doubt_of, health_by, state_of, MayHold, IsSlot}
 use Rattle.wf_slot.specs.Answers.{Goes}
 use Rattle.wf_slot.specs.Fuses.{is_crash, IsUnarmed}
-use Rattle.wf_slot.specs.Writes.{up, doubt_at, struck_at, BrokeOff, IsLeftOf, BreaksTo}
+use Rattle.wf_slot.specs.Writes.{up, struck_at, BrokeOff, IsLeftOf, BreaksTo}
 
 -- WHAT MAY STAND
 
@@ -38,13 +38,13 @@ module _ (part : PartData) (past : History) (n : ℕ) (r : Record) (file : List 
   one_in_doubt d true e is = absurd (no_record (record_of d) (sym is))
   one_in_doubt d false e is = subst (λ (x : Record). HoldsEither part past (stood x past) file) (sym (record_is (record_of d) r is)) either
 
-  pub may_hold : (d : Option Doubt) → doubt_of d ≡ doubt_at n r → MayHold part past d file
+  pub may_hold : (d : Option Doubt) → doubt_of d ≡ doubted n r → MayHold part past d file
   may_hold None is = none_in_doubt (nat_lt n 3) refl (sym is)
   may_hold (Some d) is = one_in_doubt d (nat_lt n 3) refl is
 
 -- WHERE IT SITS
 
-module _ (node : Server Held) (fuse : Option Kept) (r : Record) (new : Server Held) (hit : Kept) (broke : BrokeOff node fuse r new hit) (d : Option Doubt) (doubt : doubt_of d ≡ doubt_at hit.left r) where
+module _ (node : Server Held) (fuse : Option Kept) (r : Record) (new : Server Held) (hit : Kept) (broke : BrokeOff node fuse r new hit) (d : Option Doubt) (doubt : doubt_of d ≡ doubted hit.left r) where
   new_part : new.part ≡ node.part
   new_part = ap (λ (s : Server Held). s.part) broke.rest
 

@@ -13,8 +13,8 @@ use Rattle.wf_journal.specs.declared.fault.AppendFault.TheVariants.{Reopen, TooL
 use Rattle.wf_journal.specs.Faults.{refusal_of}
 use Rattle.wf_parts.specs.declared.data.PartData.{PartData}
 use Rattle.wf_histories.specs.Histories.{History}
-use Rattle.wf_bridge.specs.Full.{MAX_OUTER, LAST, gate_place}
-use Rattle.wf_steps.specs.Ends.{longest_turn, end_of_history}
+use Rattle.wf_bridge.specs.Full.{IsNotFull}
+use Rattle.wf_worlds.specs.Ends.{IsShort, longest_turn, end_of_history}
 use Rattle.wf_server.specs.Servers.{Server, turn_record}
 use Rattle.wf_server.specs.Images.{IsPlaced}
 use Rattle.wf_server.specs.Answers.{says, says_to_turn}
@@ -41,27 +41,26 @@ full_is : (failed : Bool) (place n : ℕ) → refusal_of failed place n ≡ Some
 unfolding refusal_of
 full_is failed place n e = let is = full_by failed ((n == 0) || nat_lt max_body n) (nat_lt max_journal (place + n + 6)) e in search (rules, is)
 
-admit_long : (request : ℕ) (outer : Outer) → length (outer_spelling outer) ≤ MAX_OUTER → length (record_spelling (Admit request outer)) + 6 ≤ LAST
+admit_long : (request : ℕ) (outer : Outer) → IsShort outer → length (record_spelling (Admit request outer)) + 6 ≤ longest_turn + 6
 unfolding record_spelling
-admit_long request outer short = omega (arith, length-append (admit_tag ∷ eight request) (outer_spelling outer), short)
+admit_long request outer short = let s : length (outer_spelling outer) ≤ 552 = short in omega (arith, length-append (admit_tag ∷ eight request) (outer_spelling outer), s)
 
-gate_is : (part : PartData) (past : History) → end_of_history part past ≡ gate_place part.chart part.name past
-unfolding end_of_history
-gate_is part past = refl
+module _ (node : Server Held) (placed : IsPlaced told_of node.journal node.part node.past) (room : IsNotFull node.part node.past) where
+  place_is : node.journal.place ≡ end_of_history node.part node.past
+  place_is = placed (image_of node.journal.disk) refl
 
-module _ (node : Server Held) (placed : IsPlaced told_of node.journal node.part node.past) (room : gate_place node.part.chart node.part.name node.past + LAST ≤ max_journal) where
-  place_is : node.journal.place ≡ gate_place node.part.chart node.part.name node.past
-  place_is = placed (image_of node.journal.disk) refl ∙ gate_is node.part node.past
+  left : end_of_history node.part node.past + 612430 ≤ max_journal
+  left = let r : end_of_history node.part node.past + longest_turn + 6 ≤ max_journal = room in omega (arith, r)
 
-  pub admit_fits : (request : ℕ) (outer : Outer) → length (outer_spelling outer) ≤ MAX_OUTER → says node (Admit request outer) ≡ Some Full → ⊥
+  pub admit_fits : (request : ℕ) (outer : Outer) → IsShort outer → says node (Admit request outer) ≡ Some Full → ⊥
   admit_fits request outer short full =
       let over = full_is node.journal.failed node.journal.place (length (record_spelling (Admit request outer))) full in
       let most = admit_long request outer short in
       let at = place_is in
-      absurd (omega (arith, over, most, at, room))
+      absurd (omega (arith, over, most, at, left))
 
   pub turn_fits : length (record_spelling (turn_record node.past node.came)) ≤ longest_turn → says_to_turn node ≡ Some Full → ⊥
   turn_fits short full =
       let over = full_is node.journal.failed node.journal.place (length (record_spelling (turn_record node.past node.came))) full in
       let at = place_is in
-      absurd (omega (arith, over, short, at, room))
+      absurd (omega (arith, over, short, at, left))

@@ -18,7 +18,7 @@ use Rattle.wf_slot.specs.Units.{none_held, down, struck}
 use Rattle.wf_slot.specs.Slots.{SlotState, held, counted_record, unit_of, fallen}
 use Rattle.wf_slot.specs.Answers.{HoldsLess, Breaks}
 use Rattle.wf_slot.specs.Seats.{health_by, state_of, IsSlot}
-use Rattle.wf_slot.specs.Writes.{doubt_at, struck_at}
+use Rattle.wf_slot.specs.Writes.{struck_at}
 
 -- A SEAT THAT IS KNOWN
 
@@ -87,7 +87,7 @@ counted_by : (past : History) (r : Record) (b : Bool) → option_map (counted_re
 counted_by past r true = refl
 counted_by past r false = refl
 
-counted_doubt : (past : History) (n : ℕ) (r : Record) → option_map (counted_record past) (doubt_at n r) ≡ doubted n (counted_record past r)
+counted_doubt : (past : History) (n : ℕ) (r : Record) → option_map (counted_record past) (doubted n r) ≡ doubted n (counted_record past r)
 counted_doubt past n r = counted_by past r (nat_lt n 3)
 
 pub struck_unit : (slot : SlotState) (n : ℕ) (what : Arm) (r : Record) (clock : ℕ) → unit_of (struck_at slot n what r clock) ≡ struck (unit_of slot) n what (counted_record slot.past r)

@@ -25,7 +25,7 @@ use Rattle.wf_slot.specs.Fuses.{fuse_of}
 use Rattle.wf_slot.specs.Slots.{SlotState, server, absent}
 use Rattle.wf_slot.specs.Answers.{Goes, AdmitWrites, TurnWrites, IsLetIn}
 use Rattle.wf_slot.specs.Seats.{doubt_of, state_of, IsSlot}
-use Rattle.wf_slot.specs.Writes.{up, doubt_at, AdmitAnswered, AdmitEnds, TurnAnswered, TurnEnds, AreAllOf, BrokeOff, BreaksTo}
+use Rattle.wf_slot.specs.Writes.{up, AdmitAnswered, AdmitEnds, TurnAnswered, TurnEnds, AreAllOf, BrokeOff, BreaksTo}
 use Rattle.wf_slot.proofs.Ups.{inputs_up, admit_answer, admit_writes, admit_goes, admit_slot, turn_answer, turn_writes, turn_goes, turn_slot, broke_slot, broke_goes, admit_broke_answer, admit_broke_writes, turn_broke_answer, turn_broke_writes, breaks_to}
 
 -- a seat that was up is taken out as it was
@@ -67,15 +67,15 @@ module _ (seat : Seat) (fuse : Option Kept) (doubt : Option Doubt) (now : SlotSt
 
     -- its write broke off, and a copy of the outer is in doubt
     module _ (hit : Kept) (end_is : end ≡ admit.Broke hit) (out : Server Held) (same : ◌≡◌ {A = Seat} (Up new) (Up out)) (there next : Seat) (at : BreaksTo out hit.what there) (next_is : next ≡ there)
-        (d : Option Doubt) (copy : Outer) (copy_is : copy ≡ outer) (d_is : doubt_of d ≡ doubt_at hit.left (Admits (record { request = request; outer = copy }))) where
+        (d : Option Doubt) (copy : Outer) (copy_is : copy ≡ outer) (d_is : doubt_of d ≡ doubted hit.left (Admits (record { request = request; outer = copy }))) where
       broke : IsLetIn (up node fuse) a × BrokeOff node fuse (Admits a) new hit × (rest ≡ None)
       broke = subst (λ (e : AdmitEnd). AdmitEnds node fuse request outer new rest e) end_is ends
 
       sits_there : BreaksTo new hit.what next
       sits_there = breaks_to new out hit.what next there same at next_is
 
-      doubt_is : doubt_of d ≡ doubt_at hit.left (Admits a)
-      doubt_is = d_is ∙ ap (λ (o : Outer). doubt_at hit.left (Admits (record { request = request; outer = o }))) copy_is
+      doubt_is : doubt_of d ≡ doubted hit.left (Admits a)
+      doubt_is = d_is ∙ ap (λ (o : Outer). doubted hit.left (Admits (record { request = request; outer = o }))) copy_is
 
       pub unadmitted_slot : IsSlot next rest d
       unadmitted_slot = broke_slot seat fuse doubt now view kept works node is (Admits a) new hit broke.1 next sits_there rest broke.2 d doubt_is
@@ -113,7 +113,7 @@ module _ (seat : Seat) (fuse : Option Kept) (doubt : Option Doubt) (now : SlotSt
 
     -- its write broke off, and copies of the updates are in doubt
     module _ (hit : Kept) (end_is : end ≡ turn.Broke hit) (out : Server Held) (same : ◌≡◌ {A = Seat} (Up new) (Up out)) (there next : Seat) (at : BreaksTo out hit.what there) (next_is : next ≡ there)
-        (d : Option Doubt) (copies : List Update) (copies_are : (now.fuse ≡ None → ⊥) → copies ≡ inputs_of now.came) (d_is : doubt_of d ≡ doubt_at hit.left (Turns copies)) where
+        (d : Option Doubt) (copies : List Update) (copies_are : (now.fuse ≡ None → ⊥) → copies ≡ inputs_of now.came) (d_is : doubt_of d ≡ doubted hit.left (Turns copies)) where
       abbrev updates : List Update
       updates = inputs_of node.came
 
@@ -128,8 +128,8 @@ module _ (seat : Seat) (fuse : Option Kept) (doubt : Option Doubt) (now : SlotSt
           let same_fuse : now.fuse ≡ fuse_of fuse = sym (ap (λ (s : SlotState). s.fuse) view) ∙ ap (λ (s : Seat). (state_of s fuse doubt).fuse) is in
           some_fuse hit (ap fuse_of (sym broke_off.3) ∙ sym same_fuse ∙ none)
 
-      in_doubt : doubt_of d ≡ doubt_at hit.left (Turns updates)
-      in_doubt = d_is ∙ ap (λ (us : List Update). doubt_at hit.left (Turns us)) (copies_are armed ∙ inputs_up seat fuse doubt now view kept works node is)
+      in_doubt : doubt_of d ≡ doubted hit.left (Turns updates)
+      in_doubt = d_is ∙ ap (λ (us : List Update). doubted hit.left (Turns us)) (copies_are armed ∙ inputs_up seat fuse doubt now view kept works node is)
 
       pub unturned_slot : IsSlot next rest d
       unturned_slot = broke_slot seat fuse doubt now view kept works node is (Turns updates) new hit broke_off.1 next goes_there rest broke_off.2 d in_doubt

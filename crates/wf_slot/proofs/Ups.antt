@@ -15,7 +15,7 @@ use Rattle.wf_machine.specs.Lines.{bar_at, asked, admit_by, turn_by}
 use Rattle.wf_histories.specs.Histories.{Admission, taken}
 use Rattle.wf_worlds.specs.Admitting.{lets_in}
 use Rattle.wf_worlds.specs.Worlds.{Record, Admits, Turns}
-use Rattle.wf_bridge.specs.Full.{gate_place, LAST}
+use Rattle.wf_bridge.specs.Full.{IsNotFull}
 use Rattle.wf_server.specs.Servers.{Server, inputs_of}
 use Rattle.wf_slot.specs.declared.fuse.Fuse.{Fuse as Kept}
 use Rattle.wf_slot.specs.declared.slot.Doubt.{Doubt}
@@ -24,7 +24,7 @@ use Rattle.wf_slot.specs.declared.slot.Seat.TheVariants.{Up}
 use Rattle.wf_slot.specs.Slots.{SlotState, unit_of, server, absent}
 use Rattle.wf_slot.specs.Answers.{Goes, AdmitWrites, TurnWrites, IsLetIn, Breaks}
 use Rattle.wf_slot.specs.Seats.{doubt_of, health_by, state_of, IsKept, IsSlot}
-use Rattle.wf_slot.specs.Writes.{up, doubt_at, struck_at, AdmitAnswered, TurnAnswered, AreAllOf, BrokeOff, BreaksTo, IsSpared}
+use Rattle.wf_slot.specs.Writes.{up, struck_at, AdmitAnswered, TurnAnswered, AreAllOf, BrokeOff, BreaksTo, IsSpared}
 use Rattle.wf_slot.proofs.Admits as admitting
 use Rattle.wf_slot.proofs.Turns as turning
 use Rattle.wf_slot.proofs.Lines.{admit_down, admit_failed, turn_down, turn_failed}
@@ -61,8 +61,8 @@ module _ (seat : Seat) (fuse : Option Kept) (doubt : Option Doubt) (now : SlotSt
   pub early_up : now.clock + 2000 ≤ last_count → node.journal.disk.clock + 2000 ≤ last_count
   early_up early = subst (λ (s : SlotState). s.clock + 2000 ≤ last_count) now_up early
 
-  pub room_up : gate_place now.part.chart now.part.name now.past + LAST ≤ max_journal → gate_place node.part.chart node.part.name node.past + LAST ≤ max_journal
-  room_up room = subst (λ (s : SlotState). gate_place s.part.chart s.part.name s.past + LAST ≤ max_journal) now_up room
+  pub room_up : IsNotFull now.part now.past → IsNotFull node.part node.past
+  room_up room = subst (λ (s : SlotState). IsNotFull s.part s.past) now_up room
 
   pub steps_up : taken now.past < max_steps → taken node.past < max_steps
   steps_up left = subst (λ (s : SlotState). taken s.past < max_steps) now_up left
@@ -114,7 +114,7 @@ module _ (seat : Seat) (fuse : Option Kept) (doubt : Option Doubt) (now : SlotSt
   spared_slot new next then still is_next is_then same spared = answered_slot new None next then still is_next is_then same spared.kept
 
   -- a write of a record broke off
-  module _ (r : Record) (new : Server Held) (hit : Kept) (broke : BrokeOff node fuse r new hit) (next : Seat) (at : BreaksTo new hit.what next) (then : Option Kept) (is_then : then ≡ None) (d : Option Doubt) (d_is : doubt_of d ≡ doubt_at hit.left r) where
+  module _ (r : Record) (new : Server Held) (hit : Kept) (broke : BrokeOff node fuse r new hit) (next : Seat) (at : BreaksTo new hit.what next) (then : Option Kept) (is_then : then ≡ None) (d : Option Doubt) (d_is : doubt_of d ≡ doubted hit.left r) where
     abbrev after : SlotState
     after = state_of next None d
 
@@ -138,7 +138,7 @@ module _ (seat : Seat) (fuse : Option Kept) (doubt : Option Doubt) (now : SlotSt
 
   -- of an admission
   module _ (request : ℕ) (outer : Outer) (letin : IsLetIn (up node fuse) (record { request = request; outer = outer })) (new : Server Held) (hit : Kept) (broke : BrokeOff node fuse (Admits (record { request = request; outer = outer })) new hit)
-      (next : Seat) (at : BreaksTo new hit.what next) (then : Option Kept) (is_then : then ≡ None) (d : Option Doubt) (d_is : doubt_of d ≡ doubt_at hit.left (Admits (record { request = request; outer = outer }))) where
+      (next : Seat) (at : BreaksTo new hit.what next) (then : Option Kept) (is_then : then ≡ None) (d : Option Doubt) (d_is : doubt_of d ≡ doubted hit.left (Admits (record { request = request; outer = outer }))) where
     abbrev a : Admission
     a = record { request = request; outer = outer }
 
@@ -156,7 +156,7 @@ module _ (seat : Seat) (fuse : Option Kept) (doubt : Option Doubt) (now : SlotSt
 
   -- of a turn
   module _ (all : AreAllOf (up node fuse) (inputs_of node.came)) (new : Server Held) (hit : Kept) (broke : BrokeOff node fuse (Turns (inputs_of node.came)) new hit)
-      (next : Seat) (at : BreaksTo new hit.what next) (then : Option Kept) (is_then : then ≡ None) (d : Option Doubt) (d_is : doubt_of d ≡ doubt_at hit.left (Turns (inputs_of node.came))) where
+      (next : Seat) (at : BreaksTo new hit.what next) (then : Option Kept) (is_then : then ≡ None) (d : Option Doubt) (d_is : doubt_of d ≡ doubted hit.left (Turns (inputs_of node.came))) where
     pub turn_broke_answer : turn_by (bar_at now.health) (absent now) (server now) ≡ (turn_barred (bar_of hit.what), server (state_of next then d))
     turn_broke_answer =
         whole (Turns (inputs_of node.came)) new hit broke next at then is_then d d_is

@@ -1,7 +1,6 @@
 -- Of other calls. What the calls of a unit do to it, beside the machine's answers.
 use Rattle.std.specs.Prelude.{◌≡◌, ◌≢◌, ◌⊎◌, ℕ, suc, ◌+◌, ◌<◌, ◌≤◌, ◌==◌, ◌&&◌, Bool, List, length, if◌then◌else◌, Option, Some, None, Ok}
 use Rattle.wf_model.specs.declared.update.Update.{Update}
-use Rattle.wf_codec.specs.Spelling.{outer_spelling}
 use Rattle.wf_machine.specs.declared.reply.Reply.{Reply}
 use Rattle.wf_machine.specs.declared.reply.Reply.TheVariants as reply
 use Rattle.wf_machine.specs.Bars.{Bar}
@@ -12,7 +11,7 @@ use Rattle.wf_histories.specs.Histories.{Admission, taken}
 use Rattle.wf_histories.specs.Agreement.{peers}
 use Rattle.wf_worlds.specs.Admitting.{lets_in}
 use Rattle.wf_worlds.specs.Worlds.{Record, Admits, Turns, stood, gather}
-use Rattle.wf_bridge.specs.Full.{MAX_OUTER}
+use Rattle.wf_worlds.specs.Ends.{IsShort}
 use Rattle.wf_steps.specs.Growing.{place_of}
 use Rattle.wf_steps.specs.Fitting.{MayBeReceived}
 use Rattle.wf_server.specs.Inbox.{IsPeer}
@@ -45,7 +44,7 @@ pub record Breaks (old : SlotState) (r : Record) (new : SlotState) : Type 0 wher
 pub record IsLetIn (old : SlotState) (a : Admission) : Type 0 where
   pub fresh : place_of old.past a.request ≡ None
   pub lets : lets_in old.part old.past a.outer ≡ Ok tt
-  pub short : length (outer_spelling a.outer) ≤ MAX_OUTER
+  pub short : IsShort a.outer
 
 -- nothing was written; or the admission, which was let in
 abbrev pub AdmitWrites : SlotState → Admission → SlotState → Type 0

@@ -33,14 +33,10 @@ use Rattle.wf_slot.specs.Seats.{state_of, IsKept}
 abbrev pub up : Server Held → Option Kept → SlotState
 up node fuse = state_of (Up node) fuse None
 
--- the record that is in doubt after a write that broke off at stroke n
-abbrev pub doubt_at : ℕ → Record → Option Record
-doubt_at n r = if nat_lt n 3 then None else Some r
-
 -- the arm went off at stroke n of a write of this record, and is used up
 abbrev pub struck_at : SlotState → ℕ → Arm → Record → ℕ → SlotState
-struck_at slot n Fail r clock = record slot { clock = clock; health = Failed; fuse = None; doubt = doubt_at n r }
-struck_at slot n (Crash outcome) r clock = record (fallen slot) { clock = clock; fuse = None; doubt = doubt_at n r }
+struck_at slot n Fail r clock = record slot { clock = clock; health = Failed; fuse = None; doubt = doubted n r }
+struck_at slot n (Crash outcome) r clock = record (fallen slot) { clock = clock; fuse = None; doubt = doubted n r }
 
 -- one stroke of a write of this record set off the arm. Before the third one it can't stand.
 pub record BrokeOff (node : Server Held) (fuse : Option Kept) (r : Record) (new : Server Held) (hit : Kept) : Type 0 where

@@ -22,7 +22,7 @@ use Rattle.wf_steps.specs.Fitting.{are_inputs}
 use Rattle.wf_steps.specs.Growing.{sealing}
 use Rattle.wf_steps.specs.Records.{admission_follows, turn_follows, after}
 use Rattle.wf_disk.specs.Disk.{Told}
-use Rattle.wf_steps.specs.Ends.{frame_size, end_of_history}
+use Rattle.wf_worlds.specs.Ends.{frame_size, end_of_history}
 use Rattle.wf_steps.specs.Recovering.{EndsAt}
 use Rattle.wf_steps.proofs.Reading.{no_frames}
 

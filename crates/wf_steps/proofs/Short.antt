@@ -14,7 +14,7 @@ use Rattle.wf_parts.specs.declared.data.PartData.{PartData}
 use Rattle.wf_parts.specs.Parts.{IsPart}
 use Rattle.wf_histories.specs.Histories.{History}
 use Rattle.wf_owns.proofs.Small.{few}
-use Rattle.wf_steps.specs.Ends.{IsShort, longest_turn}
+use Rattle.wf_worlds.specs.Ends.{IsShort, longest_turn}
 use Rattle.wf_steps.specs.Growing.{MayTurn}
 use Rattle.wf_steps.specs.Fitting.{are_inputs}
 use Rattle.wf_steps.proofs.Made.{inputs_few}

@@ -2,7 +2,6 @@ pub mod Room
 pub mod Fitting
 pub mod Items
 pub mod Growing
-pub mod Ends
 pub mod Records
 pub mod Replicas
 pub mod Recovering

@@ -10,7 +10,7 @@ use Rattle.wf_histories.specs.Histories.{History}
 use Rattle.wf_steps.specs.declared.fault.RecoverFault.{RecoverFault}
 use Rattle.wf_steps.specs.declared.fault.RecoverFault.TheVariants as f
 use Rattle.wf_steps.specs.Records.{read_on, history_of}
-use Rattle.wf_steps.specs.Ends.{end_of_history}
+use Rattle.wf_worlds.specs.Ends.{end_of_history}
 
 -- a read's refusal, as a recovery tells it
 abbrev pub fault_of : ReadFault → RecoverFault

@@ -2,7 +2,7 @@
 ghost use Rattle.std.specs.Prelude.{◌≤◌, ◌+◌, ◌*◌, length};
 ghost use Rattle.wf_codec.specs.Bodies.{IsBodyOf};
 ghost use Rattle.wf_codec.specs.declared.record.JournalRecord.TheVariants.{Admit, Turn};
-ghost use Rattle.wf_steps.specs.Ends.{IsShort};
+ghost use Rattle.wf_worlds.specs.Ends.{IsShort};
 
 use wf_model::{Outer, Update};
 

@@ -3,7 +3,7 @@ ghost use Rattle.std.specs.Prelude.{◌≡◌, ◌+◌, length, Some, None, OnOk
 ghost use Rattle.wf_journal.specs.Frames.{header};
 ghost use Rattle.wf_codec.specs.Records.{IsRecordInRange};
 ghost use Rattle.wf_codec.specs.declared.record.JournalRecord.TheVariants.{Admit, Turn};
-ghost use Rattle.wf_steps.specs.Ends.{end_of_history};
+ghost use Rattle.wf_worlds.specs.Ends.{end_of_history};
 ghost use Rattle.wf_steps.specs.Records.{admission_follows, turn_follows, after, after_body};
 
 use crate::Replica;

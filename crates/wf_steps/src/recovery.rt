@@ -8,7 +8,7 @@ ghost use Rattle.wf_codec.specs.Records.{record_of};
 ghost use Rattle.wf_codec.specs.declared.record.JournalRecord.TheVariants.{Head};
 ghost use Rattle.wf_worlds.specs.Worlds.{first_history};
 ghost use Rattle.wf_steps.specs.Records.{after_body, bad_at, or_bad, head_of};
-ghost use Rattle.wf_steps.specs.Ends.{frame_size, end_of_history};
+ghost use Rattle.wf_worlds.specs.Ends.{frame_size, end_of_history};
 ghost use Rattle.wf_steps.specs.Recovering.{IsFault, Reads, FromPlace, OfImage, EndsAt};
 ghost use Rattle.wf_steps.specs.declared.fault.RecoverFault.TheVariants as f;
 

@@ -11,7 +11,7 @@ ghost use Rattle.wf_worlds.specs.Admitting.{lets_in};
 ghost use Rattle.wf_worlds.specs.Growing.{admitted, turned};
 ghost use Rattle.wf_worlds.specs.Worlds.{first_history};
 ghost use Rattle.wf_steps.specs.Items.{own_acts, items_of, item_steps};
-ghost use Rattle.wf_steps.specs.Ends.{IsShort, longest_turn};
+ghost use Rattle.wf_worlds.specs.Ends.{IsShort, longest_turn};
 ghost use Rattle.wf_steps.specs.Growing.{place_of, sealing, MayAdmit, MayTurn, IsMade};
 ghost use Rattle.wf_steps.specs.Replicas.{prepared_of, closed_by, MayClose};
 

@@ -29,7 +29,8 @@ use Rattle.wf_slot.specs.Slots.{SlotState, held, counted_record, unit_of, server
 use Rattle.wf_slot.specs.Answers.{Goes, HoldsLess, Stands, Breaks, AdmitWrites, TurnWrites, RecoveryWrites, RecoverAnswers}
 use Rattle.wf_world.specs.Machines.{machine_of}
 use Rattle.wf_world.specs.Sounds.{hist_of}
-use Rattle.wf_world.specs.Fleets.{FleetState, units_of, machine_at, IsShort, IsShortRecord, IsFleet, Leads, WearsOne}
+use Rattle.wf_world.specs.Fleets.{FleetState, units_of, machine_at, IsShortRecord, IsFleet, Leads, WearsOne}
+use Rattle.wf_worlds.specs.Ends.{IsShort}
 use Rattle.wf_world.proofs.Sounds.{plain, plain_sound}
 use Rattle.wf_world.proofs.Counts.{lets_is}
 use Rattle.wf_world.proofs.Lines.{acted, admit_is, turn_is, crash_is, arm_is, recover_is}

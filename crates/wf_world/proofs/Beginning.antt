@@ -15,7 +15,8 @@ use Rattle.wf_slot.specs.Units.{UnitState, server_of, new_unit}
 use Rattle.wf_slot.specs.Slots.{SlotState, unit_of, server}
 use Rattle.wf_world.specs.Machines.{machine_of}
 use Rattle.wf_world.specs.Sounds.{IsSound}
-use Rattle.wf_world.specs.Fleets.{FleetState, units_of, machine_at, IsShort, IsFleet, ahead, AreWorn, IsNew, AreNew}
+use Rattle.wf_world.specs.Fleets.{FleetState, units_of, machine_at, IsFleet, ahead, AreWorn, IsNew, AreNew}
+use Rattle.wf_worlds.specs.Ends.{IsShort}
 use Rattle.wf_world.proofs.Starting.{first_units, first_is, first_units_sound}
 
 none_some : {A : Type 0} (x : A) → None ≡ Some x → ⊥

@@ -30,7 +30,8 @@ use Rattle.wf_slot.specs.Units.{UnitState, new_unit}
 use Rattle.wf_slot.specs.Slots.{SlotState, counted_record, unit_of, server}
 use Rattle.wf_world.specs.Machines.{machine_of}
 use Rattle.wf_world.specs.Sounds.{unit_at, hist_of, IsSound}
-use Rattle.wf_world.specs.Fleets.{FleetState, units_of, machine_at, IsShort, IsShortRecord, IsSlotOf, IsFleet, ahead, IsWorn, one_more, WearsOne, WearsNone, Leads}
+use Rattle.wf_world.specs.Fleets.{FleetState, units_of, machine_at, IsShortRecord, IsSlotOf, IsFleet, ahead, IsWorn, one_more, WearsOne, WearsNone, Leads}
+use Rattle.wf_worlds.specs.Ends.{IsShort}
 use Rattle.wf_world.proofs.Sounds.{get_there, get_other, at_each, hist_is, plain_sound, stood_sound, changed_sound}
 use Rattle.wf_world.proofs.Letters.{letters_on}
 use Rattle.wf_world.proofs.Lines.{acted}

@@ -14,14 +14,15 @@ use Rattle.wf_model.specs.declared.chart.Activity.{Activity}
 use Rattle.wf_model.specs.declared.chart.State.{State}
 use Rattle.wf_model.specs.Accepted.{IsAccepted, is_accepted, is_named, names_of}
 use Rattle.wf_model.proofs.Bools.{and_both}
-use Rattle.wf_codec.specs.Spelling.{outer_spelling, spelling_of}
+use Rattle.wf_codec.specs.Spelling.{spelling_of}
 use Rattle.wf_parts.specs.declared.data.PartData.{PartData}
 use Rattle.wf_parts.specs.Parts.{part_of}
 use Rattle.wf_machine.specs.Server.{taken as steps}
 use Rattle.wf_machine.specs.Machine.{Message, server as server_in}
 use Rattle.wf_histories.specs.Histories.{Admission, History, taken}
 use Rattle.wf_worlds.specs.Worlds.{letter}
-use Rattle.wf_bridge.specs.Full.{MAX_OUTER, LAST, gate_place}
+use Rattle.wf_worlds.specs.Ends.{IsShort}
+use Rattle.wf_bridge.specs.Full.{IsNotFull}
 use Rattle.wf_bridge.proofs.Full.{journal_never_full}
 use Rattle.wf_slot.specs.Slots.{SlotState}
 use Rattle.wf_world.specs.declared.mail.Sent.{Sent}
@@ -105,7 +106,7 @@ module _ (f : FleetState) (is : IsFleet f) (u : ℕ) (s : SlotState) (at : slice
     pub steps_left : taken s.past < max_steps
     steps_left = let a = worn.records in let b = records_are s in omega (arith, a, b, few)
 
-    pub not_full : gate_place s.part.chart s.part.name s.past + LAST ≤ max_journal
+    pub not_full : IsNotFull s.part s.past
     not_full =
         let lt = in_chart f is u s at in
         let part = (is.each u s at).part in
@@ -116,12 +117,12 @@ module _ (f : FleetState) (is : IsFleet f) (u : ℕ) (s : SlotState) (at : slice
         let names = names_short f.chart u is.accepted lt in
         let sent : sum_by size (map message_of f.messages) ≡ bytes_in f.messages = sent_is f.messages is.letters in
         let most = is.few in
-        let full : gate_place (part_of f.chart u).chart (part_of f.chart u).name (h u) + LAST ≤ max_journal =
-        journal_never_full f.chart (machine_at f) h u (part_of f.chart u).chart (part_of f.chart u).name (are_lean f.chart is.accepted (units_of f.slots) (count_units f is u s at) is.sound)
+        let full : IsNotFull (part_of f.chart u) (h u) =
+        journal_never_full f.chart (machine_at f) h u (part_of f.chart u) (are_lean f.chart is.accepted (units_of f.slots) (count_units f is u s at) is.sound)
         (counts f.chart is.accepted (units_of f.slots) f.messages (count_units f is u s at)) is.posted lt (omega (arith, a, b, many, few))
-        (subst (λ (x : History). AllByRecursion (λ (a : Admission). length (outer_spelling a.outer) ≤ MAX_OUTER) x.admissions) (sym past) (is.each u s at).short)
+        (subst (λ (x : History). AllByRecursion (λ (a : Admission). IsShort a.outer) x.admissions) (sym past) (is.each u s at).short)
         names.0 names.1 (omega (arith, sent, most)) in
-        subst (λ (x : History). gate_place s.part.chart s.part.name x + LAST ≤ max_journal) past (subst (λ (p : PartData). gate_place p.chart p.name (h u) + LAST ≤ max_journal) (sym part) full)
+        subst (λ (x : History). IsNotFull s.part x) past (subst (λ (p : PartData). IsNotFull p (h u)) (sym part) full)
 
   -- by what a caller shows
   pub room_early : HasRoom f u → s.clock + 2000 ≤ last_count
@@ -130,7 +131,7 @@ module _ (f : FleetState) (is : IsFleet f) (u : ℕ) (s : SlotState) (at : slice
   pub room_steps : HasRoom f u → taken s.past < max_steps
   room_steps room = steps_left room.n room.few (room.worn s at)
 
-  pub room_journal : HasRoom f u → gate_place s.part.chart s.part.name s.past + LAST ≤ max_journal
+  pub room_journal : HasRoom f u → IsNotFull s.part s.past
   room_journal room = not_full room.n room.few (room.worn s at)
 
   -- and so the next step has a number

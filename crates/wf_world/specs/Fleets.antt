@@ -7,7 +7,6 @@ use Rattle.wf_model.specs.declared.chart.Chart.{Chart}
 use Rattle.wf_model.specs.declared.outer.Outer.{Outer}
 use Rattle.wf_model.specs.Accepted.{IsAccepted}
 use Rattle.wf_parts.specs.Parts.{part_of}
-use Rattle.wf_codec.specs.Spelling.{outer_spelling}
 use Rattle.wf_machine.specs.declared.line.Line.{Line}
 use Rattle.wf_machine.specs.declared.reply.Reply.{Reply}
 use Rattle.wf_machine.specs.Server.{Health, Works, Failed, IsDown}
@@ -17,7 +16,7 @@ use Rattle.wf_machine.specs.Account.{IsAccount, MachineGrows}
 use Rattle.wf_machine.specs.Postings.{IsPosted, records}
 use Rattle.wf_histories.specs.Histories.{Admission, History}
 use Rattle.wf_worlds.specs.Worlds.{Record, Admits, Turns, MayStand, first_history}
-use Rattle.wf_bridge.specs.Full.{MAX_OUTER}
+use Rattle.wf_worlds.specs.Ends.{IsShort}
 use Rattle.wf_world.specs.declared.mail.Sent.{Sent}
 use Rattle.wf_world.specs.Mail.{bytes_in, message_of, IsLetter, AreLetters}
 use Rattle.wf_world.specs.Sent.{is_over}
@@ -42,11 +41,7 @@ units_of slots = map unit_of slots
 abbrev pub machine_at : FleetState → CountingMachine
 machine_at f = machine_of (units_of f.slots) f.messages
 
--- an outer, and a record, that fit a journal's record
-
-abbrev pub IsShort : Outer → Type 0
-IsShort o = length (outer_spelling o) ≤ MAX_OUTER
-
+-- a record that fits a journal's record
 abbrev pub IsShortRecord : Record → Type 0
 IsShortRecord (Admits a) = IsShort a.outer
 IsShortRecord (Turns updates) = Unit {0}

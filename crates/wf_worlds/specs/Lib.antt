@@ -3,3 +3,4 @@ pub mod Admitting
 pub mod Growing
 pub mod Worlds
 pub mod Kept
+pub mod Ends

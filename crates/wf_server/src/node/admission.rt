@@ -2,7 +2,7 @@
 ghost use Rattle.std.specs.Prelude.{◌≡◌, ◌≢◌, ◌+◌, ◌<◌, ℕ, None, false, true, Ok, Err, length, IfOk, IfErr, IfSome, IsOk, IsErr, IsErrOf, MatchResult};
 ghost use Rattle.wf_codec.specs.Records.{record_spelling};
 ghost use Rattle.wf_journal.specs.Room.{UsesRoom};
-ghost use Rattle.wf_steps.specs.Ends.{IsShort, frame_size};
+ghost use Rattle.wf_worlds.specs.Ends.{IsShort, frame_size};
 ghost use Rattle.wf_steps.specs.Growing.{MayAdmit};
 ghost use Rattle.wf_server.specs.Servers.{admission, admit_record, told_by, with_admission};
 ghost use Rattle.wf_server.specs.Images.{CrashLeaves};

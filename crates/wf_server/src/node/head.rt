@@ -5,7 +5,7 @@ ghost use Rattle.wf_journal.specs.Room.{UsesRoom};
 ghost use Rattle.wf_journal.specs.Start.{CanBeRead};
 ghost use Rattle.wf_journal.specs.Frames.{end_of};
 ghost use Rattle.wf_steps.specs.Records.{history_of};
-ghost use Rattle.wf_steps.specs.Ends.{end_of_history};
+ghost use Rattle.wf_worlds.specs.Ends.{end_of_history};
 ghost use Rattle.wf_steps.specs.Recovering.{IsFault};
 ghost use Rattle.wf_server.specs.Heads.{Stretch, HeadStrokes, HeadRoom, most_head, IsStill, IsEmpty, IsBegun, IsOpen};
 ghost use Rattle.wf_server.specs.Starting.{head_length};

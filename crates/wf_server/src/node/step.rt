@@ -6,7 +6,7 @@ ghost use Rattle.wf_codec.specs.Bodies.{IsBodyOf};
 ghost use Rattle.wf_codec.specs.Records.{record_spelling};
 ghost use Rattle.wf_journal.specs.Room.{UsesRoom};
 ghost use Rattle.wf_histories.specs.Histories.{taken};
-ghost use Rattle.wf_steps.specs.Ends.{frame_size, longest_turn};
+ghost use Rattle.wf_worlds.specs.Ends.{frame_size, longest_turn};
 ghost use Rattle.wf_steps.specs.Growing.{MayTurn};
 ghost use Rattle.wf_steps.specs.Replicas.{prepared_of};
 ghost use Rattle.wf_worlds.specs.Growing.{turned};

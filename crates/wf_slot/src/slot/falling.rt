@@ -10,7 +10,7 @@ ghost use Rattle.wf_histories.specs.Histories.{taken};
 ghost use Rattle.wf_slot.specs.Fuses.{IsUnarmed, IsFused};
 ghost use Rattle.wf_slot.specs.Slots.{server, fallen};
 ghost use Rattle.wf_slot.specs.Seats.{record_of, doubt_of};
-ghost use Rattle.wf_slot.specs.Writes.{doubt_at, IsLeftOf, BreaksTo};
+ghost use Rattle.wf_slot.specs.Writes.{IsLeftOf, BreaksTo};
 
 use crate::fuse::Fuse;
 use crate::slot::{Doubt, Remains, Seat, Slot, sit};
@@ -58,7 +58,7 @@ pub fn seat_after(node: Node<MemDisk>, what: Arm) -> Seat
 
 /// What is in doubt after a write of a record at which this arm went off. The third stroke of a write opens the record's gate.
 pub fn doubt_after(hit: Fuse, wanted: Doubt) -> Option<Doubt>
-    ensures { doubt_of result ≡ doubt_at hit.left (record_of wanted) }
+    ensures { doubt_of result ≡ doubted hit.left (record_of wanted) }
 {
     if hit.left < 3 { None } else { Some(wanted) }
 }

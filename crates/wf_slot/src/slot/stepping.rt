@@ -1,11 +1,11 @@
 //! How a unit takes steps.
 ghost use Rattle.std.specs.Prelude.{◌≡◌, ◌≢◌, ◌+◌, ◌≤◌, ◌<◌, false, None, IfOk, IsErr};
-ghost use Rattle.wf_model.specs.Limits.{max_journal, max_steps};
+ghost use Rattle.wf_model.specs.Limits.{max_steps};
 ghost use Rattle.wf_model.specs.Faults.{last_count};
 ghost use Rattle.wf_machine.specs.Server.{IsDown};
 ghost use Rattle.wf_machine.specs.Lines.{bar_at, turn_by};
 ghost use Rattle.wf_histories.specs.Histories.{taken};
-ghost use Rattle.wf_bridge.specs.Full.{gate_place, LAST};
+ghost use Rattle.wf_bridge.specs.Full.{IsNotFull};
 ghost use Rattle.wf_server.specs.Servers.{inputs_of};
 ghost use Rattle.wf_slot.specs.Slots.{server, absent};
 ghost use Rattle.wf_slot.specs.Answers.{Goes, TurnWrites};
@@ -33,7 +33,7 @@ fn turn_up(node: &mut Node<MemDisk>, fuse: &mut Option<Fuse>) -> Result<TurnEnd,
     requires healthy { node.old.journal.failed ≡ false }
     requires kept { IsKept node.old.part node.old.past node.old.journal.disk fuse.old None }
     requires early { node.old.journal.disk.clock + 2000 ≤ last_count }
-    requires not_full { gate_place node.old.part.chart node.old.part.name node.old.past + LAST ≤ max_journal }
+    requires not_full { IsNotFull node.old.part node.old.past }
     requires steps { taken node.old.past < max_steps }
     ensures ends { IfOk result (TurnEnds node.old fuse.old node.new fuse.new) }
     ensures spared { IsErr result → (fuse.new ≡ None) × IsSpared node.old node.new }
@@ -95,7 +95,7 @@ impl Slot {
     /// left. It refuses only if memory runs out. In linear time in the updates, the part and the view.
     pub fn turn(&mut self) -> Result<TurnReply, NoMemory>
         requires early { self.old.clock + 2000 ≤ last_count }
-        requires not_full { gate_place self.old.part.chart self.old.part.name self.old.past + LAST ≤ max_journal }
+        requires not_full { IsNotFull self.old.part self.old.past }
         requires steps { taken self.old.past < max_steps }
         ensures answer { IfOk result (λ reply. turn_by (bar_at self.old.health) (absent self.old) (server self.old) ≡ (reply, server self.new)) }
         ensures writes { IfOk result (λ _. TurnWrites self.old self.new) }

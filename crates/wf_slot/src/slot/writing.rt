@@ -1,10 +1,9 @@
 //! How a unit admits.
 ghost use Rattle.std.specs.Prelude.{◌≡◌, ◌+◌, ◌≤◌, false, length, None, IfOk, IsErr};
-ghost use Rattle.wf_model.specs.Limits.{max_journal};
 ghost use Rattle.wf_model.specs.Faults.{last_count};
 ghost use Rattle.wf_machine.specs.Lines.{bar_at, asked, admit_by};
 ghost use Rattle.wf_worlds.specs.Admitting.{lets_in};
-ghost use Rattle.wf_bridge.specs.Full.{gate_place, LAST};
+ghost use Rattle.wf_bridge.specs.Full.{IsNotFull};
 ghost use Rattle.wf_slot.specs.Slots.{server};
 ghost use Rattle.wf_slot.specs.Answers.{Goes, AdmitWrites};
 ghost use Rattle.wf_slot.specs.Seats.{IsKept};
@@ -37,7 +36,7 @@ fn admit_up(
     requires healthy { node.old.journal.failed ≡ false }
     requires kept { IsKept node.old.part node.old.past node.old.journal.disk fuse.old None }
     requires early { node.old.journal.disk.clock + 2000 ≤ last_count }
-    requires not_full { gate_place node.old.part.chart node.old.part.name node.old.past + LAST ≤ max_journal }
+    requires not_full { IsNotFull node.old.part node.old.past }
     ensures ends { IfOk result (AdmitEnds node.old fuse.old request outer.now node.new fuse.new) }
     ensures spared { IsErr result → (fuse.new ≡ None) × IsSpared node.old node.new }
 {
@@ -85,7 +84,7 @@ impl Slot {
     /// part and the outer.
     pub fn admit(&mut self, request: u64, outer: &Outer) -> Result<Reply, NoMemory>
         requires early { self.old.clock + 2000 ≤ last_count }
-        requires not_full { gate_place self.old.part.chart self.old.part.name self.old.past + LAST ≤ max_journal }
+        requires not_full { IsNotFull self.old.part self.old.past }
         ensures answer { IfOk result (λ reply.
             admit_by (bar_at self.old.health) (asked request (server self.old).admissions) (lets_in self.old.part self.old.past outer.now) (server self.old) (record { request = request; outer = outer.now })
             ≡ (reply, server self.new)) }

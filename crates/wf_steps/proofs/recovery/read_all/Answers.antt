@@ -11,7 +11,7 @@ use Rattle.wf_steps.specs.declared.fault.RecoverFault.{RecoverFault}
 use Rattle.wf_steps.specs.Records.{read_on, head_of, history_of}
 use Rattle.wf_steps.specs.Recovering.{IsFault, Reads}
 use Rattle.wf_codec.specs.declared.record.JournalRecord.TheVariants.{Head}
-use Rattle.wf_steps.specs.Ends.{frame_size}
+use Rattle.wf_worlds.specs.Ends.{frame_size}
 use Rattle.wf_steps.proofs.Ends.{no_bodies, all_ends}
 use Rattle.wf_steps.proofs.Reading.{bodies, history_end, head_more, head_wrong}
 use Rattle.wf_steps.proofs.recovery.read_all.Goals as goal

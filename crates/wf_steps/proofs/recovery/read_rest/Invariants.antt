@@ -3,7 +3,7 @@ use Rattle.wf_disk.specs.Disk.{IsSame}
 use Rattle.wf_journal.specs.Frames.{Frame, frames_from}
 use Rattle.wf_journal.specs.Journal.{IsPlace}
 use Rattle.wf_steps.specs.Records.{read_on}
-use Rattle.wf_steps.specs.Ends.{end_of_history}
+use Rattle.wf_worlds.specs.Ends.{end_of_history}
 use Rattle.wf_steps.proofs.recovery.read_rest.Given as goal
 
 abbrev pub invariant-loop-body : goal.invariant-loop-body

@@ -7,7 +7,7 @@ use Rattle.wf_histories.specs.Histories.{History, taken}
 use Rattle.wf_worlds.specs.Growing.{turned}
 use Rattle.wf_steps.specs.Replicas.{prepared_of}
 use Rattle.wf_steps.specs.declared.prepared.Prepared.{Prepared}
-use Rattle.wf_steps.specs.Ends.{longest_turn}
+use Rattle.wf_worlds.specs.Ends.{longest_turn}
 use Rattle.wf_steps.specs.Growing.{MayTurn}
 use Rattle.wf_server.specs.Servers.{Server, inputs_of, turn_record, with_turn}
 use Rattle.wf_server.specs.Nodes.{IsReady}

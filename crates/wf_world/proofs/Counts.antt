@@ -23,7 +23,7 @@ use Rattle.wf_bridge.proofs.Bridging.{lets_same, sight_same, items_same}
 use Rattle.wf_bridge.proofs.Placing.{letter_cut}
 use Rattle.wf_world.specs.declared.mail.Sent.{Sent}
 use Rattle.wf_world.specs.Sent.{brought}
-use Rattle.wf_world.specs.Mail.{message_of, IsLetter}
+use Rattle.wf_world.specs.Mail.{message_of, IsLetter, AreLetters, AreOfHistories}
 use Rattle.wf_slot.specs.Units.{UnitState, counted, server_of, new_unit}
 use Rattle.wf_world.specs.Machines.{machine_of}
 use Rattle.wf_world.specs.Sounds.{unit_at, hist_of, IsSound}
@@ -108,3 +108,18 @@ module _ (chart : Chart) (ok : IsAccepted chart) (units : List UnitState) (messa
     pub brought_letter : (v j : ℕ) → 1 ≤ j → j ≤ taken (h u) + 1 → brought chart m (record { sender = u; receiver = v; step = j }) ≡ letter chart h u v j
     brought_letter v zero some near = absurd (omega (arith, some))
     brought_letter v (suc j) some near = sym (letter_cut chart m h u v j lean_here counts (omega (arith, lt)) (omega (arith, near)))
+
+  -- so each message is of its sender's history
+  module _ (s : IsSound chart units) where
+    of_history : (x : Sent) → IsLetter chart m x → x.bytes ≡ spelling_of (letter chart h x.sender.0 x.receiver.0 x.step)
+    of_history x is =
+        let units_is = counts.units in
+        let from = is.made.sender in
+        let lt : x.sender.0 < length chart.units = omega (arith, from, units_is) in
+        let at = taken_is s x.sender.0 lt in
+        let step = is.made.step in
+        is.bytes ∙ ap spelling_of (brought_letter s x.sender.0 lt x.receiver.0 x.step is.made.first (omega (arith, step, at)))
+
+    pub of_histories : (xs : List Sent) → AreLetters chart m xs → AreOfHistories chart h xs
+    of_histories [] are = tt
+    of_histories (x ∷ xs) are = (of_history x are.0, of_histories xs are.1)

@@ -4,8 +4,11 @@ use Rattle.std.specs.List.{sum_by, AllByRecursion}
 use Rattle.wf_model.specs.Limits.{max_sent}
 use Rattle.wf_model.specs.declared.chart.Chart.{Chart}
 use Rattle.wf_codec.specs.Ranges.{IsUpdate}
+use Rattle.wf_codec.specs.Spelling.{spelling_of}
 use Rattle.wf_machine.specs.Server.{taken}
 use Rattle.wf_machine.specs.Machine.{CountingMachine, Message, server}
+use Rattle.wf_histories.specs.Histories.{History}
+use Rattle.wf_worlds.specs.Worlds.{letter}
 use Rattle.wf_world.specs.Sent.{brought, bytes_of}
 use Rattle.wf_world.specs.declared.mail.Sent.{Sent}
 
@@ -49,3 +52,7 @@ pub record IsLetter (chart : Chart) (m : CountingMachine) (x : Sent) : Type 0 wh
 -- all of them are
 abbrev pub AreLetters : Chart → CountingMachine → List Sent → Type 0
 AreLetters chart m messages = AllByRecursion (IsLetter chart m) messages
+
+-- the bytes of each spell what its sender's history makes of its step, cut by what its receiver knows
+abbrev pub AreOfHistories : Chart → (ℕ → History) → List Sent → Type 0
+AreOfHistories chart h messages = AllByRecursion (λ (x : Sent). x.bytes ≡ spelling_of (letter chart h x.sender.0 x.receiver.0 x.step)) messages

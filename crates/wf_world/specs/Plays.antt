@@ -45,3 +45,7 @@ pub record Stay (s t : WorldState) : Type 0 where
 -- a line only adds messages, where the machine's account holds
 abbrev pub MessagesStay : Type 0
 MessagesStay = (s t : WorldState) (x : Line) (r : Reply) → Acts s x r t → IsAccount s.machine → Stay s t
+
+-- and so does the end, which adds none
+abbrev pub MessagesStayToEnd : Type 0
+MessagesStayToEnd = (s t : WorldState) (e : Ending) → Finishes s e t → IsAccount s.machine → Stay s t × (t.machine.messages ≡ s.machine.messages)

@@ -1,5 +1,5 @@
 //! The laws.
-ghost use Rattle.wf_world.specs.Plays.{RunsArePlays, RefusalsPass, EndedWorldsWork, MessagesStay};
+ghost use Rattle.wf_world.specs.Plays.{RunsArePlays, RefusalsPass, EndedWorldsWork, MessagesStay, MessagesStayToEnd};
 
 /// A run of a world by its own relations, with its end, is a play: for some outcomes of its doubts the replies and the
 /// ending are the machine's, and the bytes of all messages are few enough after every line.
@@ -20,4 +20,9 @@ pub fn ended_worlds_work()
 /// A line of a world only adds messages, and the bytes of each message that was sent before are the same after it.
 pub fn messages_stay()
     ensures { MessagesStay }
+{}
+
+/// The end of a world sends nothing, and the bytes of each message that was sent are the same after it.
+pub fn messages_stay_to_end()
+    ensures { MessagesStayToEnd }
 {}

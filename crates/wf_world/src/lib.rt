@@ -18,6 +18,8 @@ mod mail;
 mod world;
 
 pub use fault::ActFault;
-pub use laws::{ended_worlds_work, messages_stay, refusals_pass, runs_are_plays};
+pub use laws::{
+    ended_worlds_work, messages_stay, messages_stay_to_end, refusals_pass, runs_are_plays,
+};
 pub use mail::{Mail, Sent};
 pub use world::World;

@@ -1,8 +1,7 @@
 //! A world: all servers of a chart.
 ghost use Rattle.std.specs.Prelude.{◌≡◌, ◌↔◌, length, slice_get, false, None, IfOk, IfSome};
-ghost use Rattle.wf_parts.specs.Parts.{part_of};
-ghost use Rattle.wf_histories.specs.Agreement.{Agree, lean};
-ghost use Rattle.wf_world.specs.Mail.{AreLetters};
+ghost use Rattle.wf_histories.specs.Laws.{AreLean};
+ghost use Rattle.wf_world.specs.Mail.{AreLetters, AreOfHistories};
 ghost use Rattle.wf_world.specs.States.{state_of, first_state};
 ghost use Rattle.wf_world.specs.Sounds.{hist_of};
 ghost use Rattle.wf_world.specs.Fleets.{units_of, DoWork, HaveDisks};
@@ -72,21 +71,24 @@ impl World {
     }
 
     /// Every message that was ever sent, lent, in the order of their numbers. Unless a fault left the world, the bytes of each spell its
-    /// sender's update of its step, cut by what its receiver knows. Takes no memory.
+    /// sender's update of its step, cut by what its receiver knows: as the machine counts it, and as the sender's history has it. Takes
+    /// no memory.
     pub fn messages(&self) -> &List<Sent>
         ensures messages { result.now ≡ self.now.messages }
         ensures letters { self.now.lost ≡ false → AreLetters self.now.chart (state_of self.now).machine self.now.messages }
+        ensures histories { self.now.lost ≡ false → AreOfHistories self.now.chart (hist_of (units_of self.now.slots)) self.now.messages }
     {
         self.fleet.messages()
     }
 
     /// The history of a unit that stands for sure, lent; none exactly if there is no such unit. Unless a fault left the world, it has as
-    /// many units as the chart, and their histories agree. Takes no memory.
+    /// many units as the chart, each history follows the rules of its unit, and they agree, so the central law holds of them. Takes no
+    /// memory.
     pub fn history(&self, unit: UnitId) -> Option<&History>
         ensures past { IfSome result (λ history. history.now.past ≡ hist_of (units_of self.now.slots) unit.0) }
         ensures none { (result ≡ None) ↔ (slice_get self.now.slots unit.0 ≡ None) }
         ensures count { self.now.lost ≡ false → length self.now.slots ≡ length self.now.chart.units }
-        ensures agree { self.now.lost ≡ false → Agree (lean self.now.chart) (length self.now.chart.units) (part_of self.now.chart) (hist_of (units_of self.now.slots)) }
+        ensures lean { self.now.lost ≡ false → AreLean self.now.chart (hist_of (units_of self.now.slots)) }
     {
         self.fleet.history(unit)
     }

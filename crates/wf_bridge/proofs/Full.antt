@@ -13,7 +13,7 @@ use Rattle.wf_machine.proofs.Sent.{taken_was_sent}
 use Rattle.wf_histories.specs.Histories.{Admission, TurnDone, taken}
 use Rattle.wf_histories.specs.Agreement.{peers}
 use Rattle.wf_worlds.specs.Worlds.{letter}
-use Rattle.wf_worlds.specs.Ends.{IsShort, frame_size}
+use Rattle.wf_worlds.specs.Ends.{IsShort, frame_size, end_of_history}
 use Rattle.wf_bridge.specs.Full.{JournalNeverFull}
 use Rattle.wf_bridge.proofs.Bridging.{taken_is}
 

@@ -53,6 +53,7 @@ module _ {D : Type 0} (told : D → Told) (lawful : (d : D) → IsLawful (told d
     image = λ file now was is.
         let run = leaves file was in
         (run.each now ((lawful j'.disk).counts_now (told j.disk).moment run.later now ((lawful j'.disk).stands now is))).history;
+    same = λ file was some. absurd (some (empty file was));
     crash = λ file is.
         weaker (told j.disk) (told j'.disk) (IsLike part file) (HoldsOneOf part (told j.disk).may_leave) (leaves file is)
         (λ c same. (file, (lawful j.disk).stands file is, same));

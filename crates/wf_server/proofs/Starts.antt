@@ -18,11 +18,11 @@ use Rattle.wf_steps.specs.Records.{history_in, history_of}
 use Rattle.wf_server.specs.declared.fault.NodeFault.{NodeFault}
 use Rattle.wf_server.specs.declared.fault.NodeFault.TheVariants as faults
 use Rattle.wf_server.specs.Images.{Holds, HoldsOneOf}
-use Rattle.wf_server.specs.Starting.{BreaksAt, StartFails, has_none, strokes_on, most_on, unstarted_by, unrecovered_by, RunsFor, Reopens, StaysShut}
+use Rattle.wf_server.specs.Starting.{BreaksAt, StartFails, LeavesBad, has_none, strokes_on, most_on, unstarted_by, unrecovered_by, RunsFor, Reopens, StaysShut}
 use Rattle.wf_server.specs.Heads.{KeepsHistory, Stretch, HeadStrokes, most_head, IsStill, ReadFails}
 use Rattle.wf_server.proofs.Standing.{told_before, some_is}
 use Rattle.wf_server.proofs.Stretches.{told_too, struck_within, stretch_more, stretch_then}
-use Rattle.wf_server.proofs.Empty.{short_none, has_none_of, has_some_of}
+use Rattle.wf_server.proofs.Empty.{none_holds, short_none, has_none_of, has_some_of}
 use Rattle.wf_server.proofs.Reading.{one_ok}
 
 pub same_bodies : (part : PartData) (a b : List ℕ) → bodies_of a ≡ bodies_of b → history_of part a ≡ history_of part b
@@ -54,9 +54,17 @@ one_at_least (Some file) = go (nat_lt (length file) 2)
     go true = omega arith
     go false = omega arith
 
+long_of : (file : List ℕ) → bodies_of file ≢ [] → 2 ≤ length file
+long_of file some = go (nat_lt (length file) 2) refl
+  where
+    go : (short : Bool) → nat_lt (length file) 2 ≡ short → 2 ≤ length file
+    go true is = absurd (some (short_none file (let few : length file < 2 = search (rules, is) in few)))
+    go false is = let long : 2 ≤ length file = search (rules, is) in long
+
 pub start_keeps : (part : PartData) (old new : Told) → KeepsBodies old new → LeavesStart old new → KeepsHistory part old new
 start_keeps part old new kept leaves = record {
   image = λ file now was is. same_bodies part now file (kept.bodies file now was is);
+  same = λ file was some. kept.same file was (long_of file some);
   crash = λ file is. weaker old new (HasBodiesOf old.may_leave) (HoldsOneOf part old.may_leave) (leaves file is)
       (λ c has. (has.0, has.1, record { begun = λ some none. some (sym has.2 ∙ none); starts = has.3; history = same_bodies part c has.0 has.2 }));
 }
@@ -135,6 +143,26 @@ pub unstarted_fails : (part : PartData) (old new : Told) (fault : StartFault) �
 unstarted_fails part old new (starts.BadFrame at) bad file is = let b = bad at refl file is in (b.0, b.1, b.2)
 unstarted_fails part old new starts.DiskFailed bad file is = tt
 unstarted_fails part old new starts.NoMemory bad file is = tt
+
+-- A JOURNAL THAT IS ANOTHER'S, OR BAD
+
+read_not_ok : {fault : RecoverFault} {h : History} → ◌≡◌ {A = Result History RecoverFault} (Err fault) (Ok h) → ⊥
+read_not_ok e = cc
+
+has_body : (part : PartData) (file : List ℕ) {fault : RecoverFault} → history_of part file ≡ Err fault → bodies_of file ≢ []
+has_body part file is none = read_not_ok (sym is ∙ none_holds part file none)
+
+pub leaves_unread : (part : PartData) (old new : Told) (fault : NodeFault) → KeepsHistory part old new → ((file : List ℕ) → old.image ≡ Some file → ReadFails (history_of part file) fault) → LeavesBad old new fault
+leaves_unread part old new (faults.Foreign kept names) keeps fails = λ file is. keeps.same file is (has_body part file (fails file is))
+leaves_unread part old new (faults.BadRecord at first) keeps fails = λ file is. keeps.same file is (has_body part file (fails file is))
+leaves_unread part old new (faults.BadFrame at) keeps fails = λ file is. absurd (fails file is)
+leaves_unread part old new faults.DiskFailed keeps fails = tt
+leaves_unread part old new faults.NoMemory keeps fails = tt
+
+pub leaves_unstarted : (old new : Told) (fault : StartFault) → ((at : ℕ) → fault ≡ starts.BadFrame at → IsBadAt old new at) → LeavesBad old new (unstarted_by fault)
+leaves_unstarted old new (starts.BadFrame at) bad = λ file is. (bad at refl file is).3
+leaves_unstarted old new starts.DiskFailed bad = tt
+leaves_unstarted old new starts.NoMemory bad = tt
 
 pub unstarted_failed : (fault : StartFault) → unstarted_by fault ≡ faults.DiskFailed → fault ≡ starts.DiskFailed
 unstarted_failed (starts.BadFrame at) e = cc e

@@ -36,6 +36,7 @@ holds_now part d c may = (c, may, like_self part c)
 pub keeps_same : (part : PartData) (old new : Told) → IsLawful old → IsSame old new → KeepsHistory part old new
 keeps_same part old new lawful same = record {
   image = λ file now was is. ap (history_of part) (some_is (sym is ∙ same.image ∙ was));
+  same = λ file was some. same.image ∙ was;
   crash = λ file is. stays old old new (HoldsOneOf part old.may_leave) (started old (HoldsOneOf part old.may_leave) lawful (holds_now part old)) same;
 }
 
@@ -111,6 +112,7 @@ module _ (old mid new : Told) (tells : is_some mid.image ≡ is_some old.image) 
   pub keeps_then : (part : PartData) → IsLawful mid → KeepsHistory part old mid → KeepsHistory part mid new → KeepsHistory part old new
   keeps_then part lawful a b = record {
     image = λ file now was is. let here = told_too old.image mid.image tells file was in b.image here.0 now here.1 is ∙ a.image file here.0 was here.1;
+    same = λ file was some. b.same file (a.same file was some) some;
     crash = λ file is.
         let here = told_too old.image mid.image tells file is in
         let run = a.crash file is in

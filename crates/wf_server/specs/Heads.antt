@@ -14,9 +14,11 @@ use Rattle.wf_server.specs.declared.fault.NodeFault.TheVariants as faults
 use Rattle.wf_server.specs.Images.{HoldsOneOf}
 use Rattle.wf_server.specs.Starting.{RunsFor, has_none, head_length}
 
--- the image holds what it held, and a crash meanwhile leaves what holds the same as an image that a crash just before could leave
+-- the image holds what it held, and with a frame in it it is the same; a crash meanwhile leaves what holds the same as an image that a crash
+-- just before could leave
 pub record KeepsHistory (part : PartData) (old new : Told) : Type 0 where
   pub image : (file now : List ℕ) → old.image ≡ Some file → new.image ≡ Some now → history_of part now ≡ history_of part file
+  pub same : (file : List ℕ) → old.image ≡ Some file → bodies_of file ≢ [] → new.image ≡ Some file
   pub crash : (file : List ℕ) → old.image ≡ Some file → LeavesOnly old new (HoldsOneOf part old.may_leave)
 
 -- a stretch of a start: its strokes, of which there are at most so many, and the history

@@ -21,6 +21,10 @@ use Rattle.wf_server.specs.Servers.{Server, held}
 abbrev pub BreaksAt : List ℕ → ℕ → Type 0
 BreaksAt file place = (2 ≤ length file) × (is_broken file ≡ true) × (end_of file ≡ place)
 
+-- the image is the same after it
+abbrev pub LeavesImage : Told → Told → Type 0
+LeavesImage old new = (file : List ℕ) → old.image ≡ Some file → new.image ≡ Some file
+
 -- why no server is started on this image: a bad frame comes first, then what the records are
 abbrev pub StartFails : PartData → List ℕ → NodeFault → Type 0
 StartFails part file (faults.BadFrame place) = BreaksAt file place
@@ -28,6 +32,14 @@ StartFails part file (faults.Foreign kept wanted) = (can_start file ≡ true) ×
 StartFails part file (faults.BadRecord place first) = (can_start file ≡ true) × (history_of part file ≡ Err (recovery.BadRecord place first))
 StartFails part file faults.DiskFailed = Unit {0}
 StartFails part file faults.NoMemory = Unit {0}
+
+-- a journal that is another's, or bad, is left as it is, to the byte
+abbrev pub LeavesBad : Told → Told → NodeFault → Type 0
+LeavesBad old new (faults.BadFrame place) = LeavesImage old new
+LeavesBad old new (faults.Foreign kept wanted) = LeavesImage old new
+LeavesBad old new (faults.BadRecord place first) = LeavesImage old new
+LeavesBad old new faults.DiskFailed = Unit {0}
+LeavesBad old new faults.NoMemory = Unit {0}
 
 -- A refusal of the journal's start, and one of the recovery, as a server tells it.
 

@@ -9,7 +9,7 @@ ghost use Rattle.wf_steps.specs.Records.{history_of};
 ghost use Rattle.std.specs.Prelude.{Ok};
 ghost use Rattle.wf_server.specs.Images.{Holds, HoldsOneOf};
 ghost use Rattle.wf_server.specs.Heads.{Stretch, HeadStrokes, HeadRoom, most_head, IsStill, ReadFails};
-ghost use Rattle.wf_server.specs.Starting.{StartFails, IsStarted, StartRuns, StartRoom, strokes_on, Reopens, StaysShut};
+ghost use Rattle.wf_server.specs.Starting.{StartFails, LeavesBad, IsStarted, StartRuns, StartRoom, strokes_on, Reopens, StaysShut};
 
 use crate::NodeFault;
 use crate::node::head::read_unit;
@@ -74,8 +74,8 @@ impl<D: Disk> Node<D> {
 
     /// Starts a node on a disk: it opens the journal, writes the head record on one without frames, and recovers the history. The refusal
     /// is what the journal's start answers, and only then what the recovery answers, so that `BadFrame` comes before `Foreign` and
-    /// `BadRecord`; each comes exactly if the image is so. Part and disk are given back at a refusal, and the disk's history is as
-    /// before. A crash meanwhile leaves a history that a crash just before could leave. Over an image that a node left it makes one stroke,
+    /// `BadRecord`; each comes exactly if the image is so, and then leaves the image as it is. Part and disk are given back at a refusal,
+    /// and the disk's history is as before. A crash meanwhile leaves a history that a crash just before could leave. Over an image that a node left it makes one stroke,
     /// and answers Ok with that history, unless the disk fails or memory runs out. Of the disk's room no more is gone than three writes, of
     /// the head's length and seven bytes in all, and where there is a frame no more than one write of one byte. In linear time in the
     /// journal, with one frame in memory at a time beside the history.
@@ -88,6 +88,7 @@ impl<D: Disk> Node<D> {
         ensures given_back { IfErr result (λ refused. refused.part ≡ part) }
         ensures kept { IfErr result (λ refused. (old new : List ℕ) → (D.told disk).image ≡ Some old → (D.told refused.disk).image ≡ Some new →
             history_of part new ≡ history_of part old) }
+        ensures untouched { IfErr result (λ refused. LeavesBad (D.told disk) (D.told refused.disk) refused.fault) }
 
         // Over an image that a node left.
         ensures reopens { IfOk result (λ node. (past : History) (file : List ℕ) → (D.told disk).image ≡ Some file → Holds part past file →

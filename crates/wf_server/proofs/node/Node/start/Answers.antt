@@ -2,11 +2,12 @@ use Rattle.std.proofs.Common.{◌≡◌, rules, arith, sym, ap, ◌∙◌, subst
 use Rattle.std.specs.Prelude.{Ok}
 use Rattle.wf_journal.specs.declared.fault.StartFault.TheVariants as starts
 use Rattle.wf_server.specs.declared.fault.NodeFault.TheVariants as faults
-use Rattle.wf_server.specs.Starting.{StartFails, unstarted_by}
+use Rattle.wf_server.specs.Starting.{StartFails, LeavesBad, unstarted_by}
+use Rattle.wf_server.specs.Heads.{ReadFails}
 use Rattle.wf_server.proofs.Stretches.{runs_more, runs_as}
 use Rattle.wf_journal.specs.Start.{start_strokes}
 use Rattle.wf_server.specs.Starting.{most_on}
-use Rattle.wf_server.proofs.Starts.{fewer_strokes, reopens, stays_shut, if_ok, if_ok_all, if_err, if_err_both, whole_stretch, start_history, refused_here, strokes_then, start_keeps, start_stretch_refused, unstarted_fails, unstarted_failed}
+use Rattle.wf_server.proofs.Starts.{fewer_strokes, reopens, stays_shut, if_ok, if_ok_all, if_err, if_err_both, whole_stretch, start_history, refused_here, strokes_then, start_keeps, start_stretch_refused, unstarted_fails, leaves_unread, leaves_unstarted, unstarted_failed}
 use Rattle.wf_server.proofs.Starts.{can_start_of}
 use Rattle.wf_server.proofs.Rooms.{start_room, start_room_refused, ok_always}
 use Rattle.wf_server.proofs.node.Node.start.Goals as goal
@@ -19,6 +20,21 @@ returns-in-Ok-clause-refused g c = if_err c.of_journal.result _ _ (λ refused h.
 
 pub returns-in-Ok-clause-kept : goal.returns-in-Ok-clause-kept
 returns-in-Ok-clause-kept g c = if_err c.of_journal.result _ _ (λ refused s. (whole_stretch c.args.part (g.D.Disk.told c.args.disk) (g.D.Disk.told c.in-Ok.journal.disk) _ _ (g.met.D.Disk.lawful c.in-Ok.journal.disk) c.in-Ok.ensures.kept c.in-Ok.ensures.any_moment c.in-Ok.ensures.plan c.in-Ok.ensures.faults c.in-Ok.ensures.strokes c.in-Ok.ensures.most s).keeps.image) c.of_journal.ensures.stretch_refused
+
+pub returns-in-Ok-clause-untouched : goal.returns-in-Ok-clause-untouched
+returns-in-Ok-clause-untouched g c =
+    let old = g.D.Disk.told c.args.disk in
+    let mid = g.D.Disk.told c.in-Ok.journal.disk in
+    if_err_both c.of_journal.result _ _ _
+    (λ refused s h. leaves_unread c.args.part old (g.D.Disk.told refused.disk) refused.fault
+    (whole_stretch c.args.part (g.D.Disk.told c.args.disk) (g.D.Disk.told c.in-Ok.journal.disk) _ _ (g.met.D.Disk.lawful c.in-Ok.journal.disk) c.in-Ok.ensures.kept c.in-Ok.ensures.any_moment c.in-Ok.ensures.plan c.in-Ok.ensures.faults c.in-Ok.ensures.strokes c.in-Ok.ensures.most s).keeps
+    (start_history c.args.part old mid c.in-Ok.ensures.kept (λ wanted. ReadFails wanted refused.fault) h))
+    c.of_journal.ensures.stretch_refused c.of_journal.ensures.refused
+
+pub returns-in-Err-clause-untouched : goal.returns-in-Err-clause-untouched
+returns-in-Err-clause-untouched g c =
+    let is : c.from.result ≡ unstarted_by c.in-Err.refused.fault = search (rules, c.from.ensures) in
+    subst (LeavesBad (g.D.Disk.told c.args.disk) (g.D.Disk.told c.in-Err.refused.disk)) (sym is) (leaves_unstarted (g.D.Disk.told c.args.disk) (g.D.Disk.told c.in-Err.refused.disk) c.in-Err.refused.fault c.in-Err.ensures.bad)
 
 pub returns-in-Ok-clause-crash : goal.returns-in-Ok-clause-crash
 returns-in-Ok-clause-crash g c = if_ok c.of_journal.result _ _ (λ node s. (whole_stretch c.args.part (g.D.Disk.told c.args.disk) (g.D.Disk.told c.in-Ok.journal.disk) _ _ (g.met.D.Disk.lawful c.in-Ok.journal.disk) c.in-Ok.ensures.kept c.in-Ok.ensures.any_moment c.in-Ok.ensures.plan c.in-Ok.ensures.faults c.in-Ok.ensures.strokes c.in-Ok.ensures.most s).keeps.crash) c.of_journal.ensures.stretch

@@ -1,5 +1,6 @@
 -- Two units: whose updates came, and that their histories are all.
-use Rattle.std.proofs.Common.{◌≡◌, ◌<◌, ◌∷◌, [], ℕ, zero, suc, List, Option, Some, length, IsSome, refl, sym, ap₂, subst, arith}
+use Rattle.std.proofs.Common.{◌≡◌, ◌<◌, ◌+◌, ◌∷◌, [], ℕ, zero, suc, List, Option, Some, length, IsSome, refl, sym, ap₂, subst, inr, arith}
+use Rattle.std.specs.Prelude.{◌⊎◌}
 use Rattle.std.specs.Borrow.{Bor}
 use Rattle.wf_model.specs.declared.chart.Chart.{Chart}
 use Rattle.wf_model.specs.declared.update.Update.{Update}
@@ -41,3 +42,7 @@ all_made chart a b x y units a_is b_is a_made b_made = record {
     made zero lt = a_made
     made (suc zero) lt = b_made
     made (suc (suc u)) lt = absurd (omega (arith, lt))
+
+-- before the first step, step 1 is the next one
+pub first_is_kept : (taken : ℕ) → taken ≡ 0 → (1 ≡ taken) ⊎ (1 ≡ taken + 1)
+first_is_kept taken none = inr (omega (arith, none))

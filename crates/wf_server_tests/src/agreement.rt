@@ -44,7 +44,8 @@ const KEPT: [u8; 21] = [
 
 const SENT: [u8; 18] = [0x55, 0, 0, 0, 0, 2, 0, 0, 0, 0, 0, 0, 0, 0, 0, 0, 0, 0];
 
-const FIRST: [u8; 18] = [0x55, 0, 0, 0, 0, 1, 0, 0, 0, 0, 0, 0, 0, 0, 0, 0, 0, 0];
+/// An update of unit a of step 1, which tells nothing.
+pub const FIRST: [u8; 18] = [0x55, 0, 0, 0, 0, 1, 0, 0, 0, 0, 0, 0, 0, 0, 0, 0, 0, 0];
 
 // What is found of the histories of two units, and what unit a made of the steps that it took.
 #[derive(Drop)]
@@ -98,8 +99,8 @@ fn found_on(alloc: Global, of_a: &[u8], of_b: &[u8]) -> Option<Found> {
     }
 }
 
-// Whether these bytes spell an update.
-fn spells(alloc: Global, bytes: &[u8], update: &Update) -> bool {
+/// Whether these bytes spell an update.
+pub fn spells(alloc: Global, bytes: &[u8], update: &Update) -> bool {
     match decode(alloc, bytes) {
         Ok((spelt, _)) => spelt.is_same(update),
         Err(_) => false,

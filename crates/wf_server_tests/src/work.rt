@@ -1,8 +1,9 @@
 //! What a server of unit a is asked, and what it leaves.
-use crate::charts::{ONE, TALK, TWO, checked_of};
+use crate::charts::{JOBS, ONE, TALK, TWO, checked_of};
 use crate::coming::right_updates;
 use crate::journals::{JOURNAL, WRITTEN};
 use crate::servers::{Started, image_of, server_on};
+use crate::shown::{right_list, right_sight};
 use crate::steps::{right_admission, right_step, right_steps};
 use std::alloc::Global;
 use wf_disk::MemDisk;
@@ -20,6 +21,10 @@ enum Work {
     AllSteps,
     /// What it says to updates that come.
     Updates,
+    /// What it shows and sends.
+    Sight,
+    /// To admit an event and take a step, and then its merged list.
+    Merged,
 }
 
 // How many answers are right before the first that isn't.
@@ -29,6 +34,8 @@ fn right_answers(alloc: Global, node: &mut Node<MemDisk>, work: Work) -> usize {
         Work::Step => right_step(alloc, node),
         Work::AllSteps => right_steps(node),
         Work::Updates => right_updates(alloc, node),
+        Work::Sight => right_sight(alloc, node),
+        Work::Merged => right_list(alloc, node),
     }
 }
 
@@ -87,4 +94,14 @@ fn all_steps_that_there_are(rt: HostRuntime) {
 #[test]
 fn updates_that_come(rt: HostRuntime) {
     assert!(rt; right_of(rt.alloc(), TALK, Work::Updates) == Some(64));
+}
+
+#[test]
+fn what_a_new_server_shows(rt: HostRuntime) {
+    assert!(rt; right_of(rt.alloc(), TWO, Work::Sight) == Some(4));
+}
+
+#[test]
+fn an_admission_is_merged(rt: HostRuntime) {
+    assert!(rt; right_of(rt.alloc(), JOBS, Work::Merged) == Some(4));
 }

@@ -5,7 +5,7 @@ use Rattle.wf_disk.specs.declared.arm.Outcome.{Outcome}
 use Rattle.wf_disk.specs.declared.arm.Arm.TheVariants.{Fail, Crash}
 use Rattle.wf_disk.specs.Memory.{Held, told_of}
 use Rattle.wf_parts.specs.declared.data.PartData.{PartData}
-use Rattle.wf_machine.specs.Server.{Health}
+use Rattle.wf_machine.specs.Server.{Health, doubted}
 use Rattle.wf_histories.specs.Histories.{History, taken}
 use Rattle.wf_worlds.specs.Worlds.{Record, stood}
 use Rattle.wf_server.specs.Servers.{Server}

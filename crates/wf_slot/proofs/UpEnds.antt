@@ -6,7 +6,7 @@ use Rattle.wf_disk.specs.Memory.{Held}
 use Rattle.wf_machine.specs.declared.reply.Reply.{Reply}
 use Rattle.wf_machine.specs.declared.reply.TurnReply.{TurnReply}
 use Rattle.wf_machine.specs.Bars.{bar_of, barred, turn_barred}
-use Rattle.wf_machine.specs.Server.{Works}
+use Rattle.wf_machine.specs.Server.{Works, doubted}
 use Rattle.wf_machine.specs.Lines.{bar_at, asked, admit_by, turn_by}
 use Rattle.wf_histories.specs.Histories.{Admission}
 use Rattle.wf_worlds.specs.Admitting.{lets_in}

@@ -10,7 +10,7 @@ use Rattle.wf_machine.specs.declared.reply.Reply.TheVariants as reply
 use Rattle.wf_machine.specs.declared.reply.TurnReply.{TurnReply}
 use Rattle.wf_machine.specs.declared.reply.TurnReply.TheVariants as turn
 use Rattle.wf_machine.specs.Bars.{bar_of, barred, turn_barred}
-use Rattle.wf_machine.specs.Server.{Health, Works, Failed, IsDown}
+use Rattle.wf_machine.specs.Server.{Health, Works, Failed, IsDown, doubted}
 use Rattle.wf_machine.specs.Lines.{bar_at, asked, admit_by, turn_by}
 use Rattle.wf_histories.specs.Histories.{Admission, taken}
 use Rattle.wf_worlds.specs.Admitting.{lets_in}

@@ -8,7 +8,7 @@ use Rattle.wf_disk.specs.Memory.{Held, told_of}
 use Rattle.wf_machine.specs.declared.reply.Reply.{Reply}
 use Rattle.wf_machine.specs.declared.reply.TurnReply.{TurnReply}
 use Rattle.wf_machine.specs.Strokes.{SetOff, strokes}
-use Rattle.wf_machine.specs.Server.{Failed}
+use Rattle.wf_machine.specs.Server.{Failed, doubted}
 use Rattle.wf_machine.specs.Lines.{bar_at, asked, admit_by, turn_by}
 use Rattle.wf_histories.specs.Histories.{taken}
 use Rattle.wf_histories.specs.Agreement.{peers}

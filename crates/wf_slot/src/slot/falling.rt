@@ -4,7 +4,7 @@ ghost use Rattle.wf_model.specs.Faults.{last_count};
 ghost use Rattle.wf_disk.specs.Memory.{told_of};
 ghost use Rattle.wf_machine.specs.Bars.{bar_of, barred, turn_barred};
 ghost use Rattle.wf_machine.specs.Strokes.{Fuse as FuseValue};
-ghost use Rattle.wf_machine.specs.Server.{IsDown};
+ghost use Rattle.wf_machine.specs.Server.{IsDown, doubted};
 ghost use Rattle.wf_machine.specs.Lines.{crash_by};
 ghost use Rattle.wf_histories.specs.Histories.{taken};
 ghost use Rattle.wf_slot.specs.Fuses.{IsUnarmed, IsFused};

@@ -1,0 +1,9 @@
+pub mod Taking
+pub mod Peers
+pub mod Sendings
+pub mod Opened
+pub mod Keeping
+pub mod Stops
+pub mod Answering
+pub mod Moves
+pub mod Rounds

@@ -1,0 +1,34 @@
+//! What the threads of a host do with a server: how it takes in what its peers send, how it answers
+//! those at its desks, how it takes its steps and sends its updates, and how it goes on from the
+//! history that its disk had.
+//!
+//! - Promises: if a peer's updates come in order, each that `take_in_all` pops or `hand_over` brings
+//!   is taken in, and none is refused; after `hand_over` all that was pushed and all that waited has
+//!   come. `answer_all` answers each item that it takes from a desk, in order, and each new admission
+//!   was asked for by one of them. The history goes on from the one that the disk had as
+//!   it was taken, and so does each that a crash since then may leave. `take_steps` takes at most 8
+//!   steps, none past the target, and sends each peer the updates in order.
+//! - Doesn't say: that a peer's updates come in order.
+//! - A caller: none; no thread runs yet.
+//! - A change of what is taken in begins in `specs/Taking.antt`, one of what is answered in
+//!   `specs/Answering.antt`, one of what is sent in `specs/Sendings.antt`, one of what crashes may
+//!   leave in `specs/Keeping.antt`.
+#![tactic(auto)]
+
+mod answering;
+mod desk;
+mod handing;
+mod keeping;
+mod outbox;
+mod stepping;
+mod stop;
+mod taking;
+mod unit;
+
+pub use answering::answer_all;
+pub use desk::{Answer, Desk};
+pub use handing::hand_over;
+pub use outbox::Outbox;
+pub use stepping::{take_in_all, take_steps};
+pub use stop::Stop;
+pub use unit::UnitActor;

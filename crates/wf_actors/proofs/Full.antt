@@ -8,7 +8,7 @@ use Rattle.wf_codec.specs.Tags.{admit_tag}
 use Rattle.wf_codec.specs.Records.{record_spelling}
 use Rattle.wf_journal.specs.declared.fault.AppendFault.TheVariants.{Reopen, TooLong, Full}
 use Rattle.wf_journal.specs.Faults.{refusal_of}
-use Rattle.wf_steps.specs.Ends.{IsShort, longest_turn}
+use Rattle.wf_worlds.specs.Ends.{IsShort, longest_turn}
 use Rattle.wf_server.specs.Servers.{admit_record}
 use Rattle.wf_actors.specs.Stops.{full_place}
 

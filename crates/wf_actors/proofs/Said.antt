@@ -7,7 +7,7 @@ use Rattle.std.proofs.lemmas.Map.Views.{exact_unsigned_eq}
 use Rattle.wf_model.specs.declared.outer.Outer.{Outer}
 use Rattle.wf_disk.specs.Disk.{Told, HasCause}
 use Rattle.wf_histories.specs.Histories.{Admission, History}
-use Rattle.wf_steps.specs.Ends.{IsShort}
+use Rattle.wf_worlds.specs.Ends.{IsShort}
 use Rattle.wf_projection.specs.Merged.{numbered}
 use Rattle.wf_exchange.specs.declared.lines.LineItem.{LineItem}
 use Rattle.wf_server.specs.declared.fault.Admitted.{Admitted}

@@ -4,7 +4,7 @@ use Rattle.wf_model.specs.Faults.{Rose}
 use Rattle.wf_model.specs.Limits.{max_journal, max_steps}
 use Rattle.wf_disk.specs.Disk.{Told}
 use Rattle.wf_histories.specs.Histories.{taken}
-use Rattle.wf_steps.specs.Ends.{longest_turn}
+use Rattle.wf_worlds.specs.Ends.{longest_turn}
 use Rattle.wf_server.specs.Servers.{Server, told_by}
 use Rattle.wf_server.specs.declared.fault.TurnFault.{TurnFault}
 use Rattle.wf_server.specs.declared.fault.TurnFault.TheVariants as turns

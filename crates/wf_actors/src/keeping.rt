@@ -4,7 +4,7 @@ ghost use Rattle.wf_disk.specs.Disk.{HasCause};
 ghost use Rattle.wf_histories.specs.Histories.{taken};
 ghost use Rattle.wf_server.specs.Answers.{AdmitAnswers, TurnAnswers, IsAsked, IsNew};
 ghost use Rattle.wf_server.specs.Servers.{held, told_by, with_admission, with_turn};
-ghost use Rattle.wf_steps.specs.Ends.{IsShort};
+ghost use Rattle.wf_worlds.specs.Ends.{IsShort};
 ghost use Rattle.wf_actors.specs.Keeping.{KeepsAll};
 
 use wf_disk::Disk;

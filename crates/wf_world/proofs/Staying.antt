@@ -11,7 +11,7 @@ use Rattle.wf_machine.specs.Lines.{Acted, act}
 use Rattle.wf_machine.specs.Runs.{closed}
 use Rattle.wf_machine.proofs.Stays.{act_grows, closed_grows, update_on}
 use Rattle.wf_world.specs.Sent.{bytes_of}
-use Rattle.wf_world.specs.Plays.{MessagesStay, MessagesStayToEnd}
+use Rattle.wf_world.specs.Plays.{Stay, MessagesStay, MessagesStayToEnd}
 use Rattle.wf_world.proofs.Following.{act_messages}
 
 pub messages_stay : MessagesStay
@@ -35,7 +35,7 @@ messages_stay_to_end s t e did account =
     let bs = did.machine.0 in
     let after : closed s.machine bs ≡ t.machine = did.machine.2 in
     let same = ap (λ (m : CountingMachine). m.messages) (sym after) in
-    let stay = record {
+    let stay : Stay s t = record {
       more = [];
       messages = same ∙ sym (append-nil s.machine.messages);
       bytes = λ n y there unit.

@@ -1,4 +1,4 @@
--- Of other calls. What a unit answers to the lines of its clients and to the completions of its workers.
+-- Of other calls. What a unit answers to its clients' lines and its workers' completions.
 use Rattle.std.specs.Prelude.{◌≡◌, ◌≢◌, ℕ, ◌==◌, ◌≤◌, Bool, List, [], ◌∷◌, ◌++◌, flat_map, drop, length, zip, Some, Result, Ok, Err, slice_get, if◌then◌else◌}
 use Rattle.std.specs.Option.{option_map_or}
 use Rattle.std.specs.List.{enumerate_from}

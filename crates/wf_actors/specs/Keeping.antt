@@ -1,4 +1,4 @@
--- Of other calls. What is known of a unit's history and of what crashes may leave of it, since its disk was taken.
+-- Of other calls. What is known of a unit's history in a run, and what a crash leaves of it.
 use Rattle.std.specs.Prelude.{◌≡◌, ◌≤◌, ℕ, Bool, false, List, Some, Ok}
 use Rattle.wf_disk.specs.Disk.{Told}
 use Rattle.wf_parts.specs.declared.data.PartData.{PartData}

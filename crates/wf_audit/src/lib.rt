@@ -14,5 +14,5 @@ mod reply;
 mod script;
 
 pub use central::{RunFault, run_central};
-pub use reply::{Reply, append_fault, append_shown, reply_line};
+pub use reply::{Reply, append_fault, append_shown, append_vars, reply_line};
 pub use script::{CentralLine, read_central};

@@ -77,7 +77,9 @@ fn append_states(text: &mut Bytes, chart: &Chart, states: &[StateId]) -> Result<
     Ok(())
 }
 
-fn append_vars(text: &mut Bytes, chart: &Chart, vars: &[Output]) -> Result<(), NoMemory>
+/// Adds variables with their values, each as a blank, its name, `=` and the value. A number that the chart hasn't is written
+/// as an empty name. After `NoMemory` some of them may have been added. Linear in what is written.
+pub fn append_vars(text: &mut Bytes, chart: &Chart, vars: &[Output]) -> Result<(), NoMemory>
     ensures { OnOk result (text.new ≡ text.old ++ spec.vars_text chart.now vars.now) }
 {
     for variable in vars {

@@ -7,7 +7,7 @@ use Rattle.wf_model.specs.Faults.{Rose}
 use Rattle.wf_model.specs.declared.fault.Failed.{Failed}
 use Rattle.wf_model.specs.declared.ids.UnitId.{UnitId}
 use Rattle.wf_disk.specs.Disk.{Told, HasCause}
-use Rattle.wf_disk.specs.Shelf.{ShelfTold, KeepsDisk, IsTaken, IsGiven, ShelfHasCause, FailsAtReturn}
+use Rattle.wf_disk.specs.Shelf.{ShelfTold, KeepsDisk, IsTaken, ShelfHasCause, FailsAtReturn}
 use Rattle.wf_trail.specs.declared.fault.TrailFault.{TrailFault}
 use Rattle.wf_trail.specs.declared.shelf.Trails.{Trails}
 use Rattle.wf_disk.specs.declared.shelf.TakeRefused.{TakeRefused}
@@ -16,7 +16,7 @@ use Rattle.wf_trail.specs.Telling.{ComesBack, IsFree, take_fault, first_loss, Ha
 use Rattle.wf_trail.specs.Shelves.{Tells, KeepsDisks, IsOfDisk, IsOfUnits}
 
 -- two names are the same, or they aren't
-which : (a b : List ℕ) → (a ≡ b) ⊎ (a ≢ b)
+pub which : (a b : List ℕ) → (a ≡ b) ⊎ (a ≢ b)
 which a b = go (bytes_eq a b) refl
   where
     go : (t : Bool) → bytes_eq a b ≡ t → (a ≡ b) ⊎ (a ≢ b)
@@ -54,11 +54,6 @@ tells_others name old taken disk images goes others tells n stands = go (which n
 -- a disk that went out is out until it is given back
 pub is_out : (name : List ℕ) (old taken rest : ShelfTold) (disk : Told) → IsTaken name old taken disk → KeepsDisks taken rest → IsTrue (is_some (rest.taken_at name))
 is_out name old taken rest disk goes keeps = ap (λ (o : Option ℕ). is_some o) (keeps.taken_at name ∙ goes.out)
-
--- a disk that is given back as it was
-pub comes_back : (name : List ℕ) (old new : ShelfTold) (disk back : Told) → IsGiven name old new back → ((n : List ℕ) → n ≢ name → KeepsDisk n old new) → back.image ≡ disk.image →
-    ComesBack name old new disk
-comes_back name old new disk back comes stay same = record { stands = comes.stands; image = comes.image ∙ same; others = stay }
 
 -- the disk of this name went out, others were taken and given back, and it comes back with its image
 module _ (name : List ℕ) (old taken rest given : ShelfTold) (disk : Told) (goes : IsTaken name old taken disk) (others : (n : List ℕ) → n ≢ name → KeepsDisk n old taken)

@@ -2,4 +2,5 @@ mod Records
 mod Readings
 mod Texts
 mod Leaving
+pub mod Crashes
 mod Finishing

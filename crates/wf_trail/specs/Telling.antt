@@ -10,6 +10,7 @@ use Rattle.wf_disk.specs.declared.shelf.TakeRefused.{TakeRefused}
 use Rattle.wf_disk.specs.declared.shelf.TakeRefused.TheVariants as take
 use Rattle.wf_parts.specs.Parts.{part_of}
 use Rattle.wf_journal.specs.Frames.{open_gate}
+use Rattle.wf_journal.specs.Journal.{HasBodiesOf}
 use Rattle.wf_journal.specs.declared.fault.StartFault.{StartFault}
 use Rattle.wf_journal.specs.declared.fault.StartFault.TheVariants as start
 use Rattle.wf_histories.specs.Histories.{History}
@@ -79,10 +80,13 @@ abbrev pub first_loss : UnitId → Option UnitId → Result (Unit {0}) Failed �
 first_loss unit lost (Ok done) = lost
 first_loss unit lost (Err failed) = Some unit
 
--- the disk of this name stands on the shelf again, with the image that it went out with, and no other was moved
+-- The disk of this name stands on the shelf again, with the image that it went out with, and no other was moved. A crash leaves of it,
+-- and might have left since it went out, the bodies of what it might have left then.
 pub record ComesBack (name : List ℕ) (old new : ShelfTold) (disk : Told) : Type 0 where
   pub stands : new.taken_at name ≡ None
   pub image : new.image name ≡ disk.image
+  pub now : (file : List ℕ) → disk.image ≡ Some file → (c : List ℕ) → new.may_leave name c → HasBodiesOf disk.may_leave c
+  pub meanwhile : (file : List ℕ) → disk.image ≡ Some file → old.taken_at name ≡ Some disk.moment → (c : List ℕ) → new.left_between name c → HasBodiesOf disk.may_leave c
   pub others : (n : List ℕ) → n ≢ name → KeepsDisk n old new
 
 -- a shelf's count of faults doesn't fall, it rose if a disk failed or wasn't taken back, and else it is as before

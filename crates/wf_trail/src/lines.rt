@@ -1,47 +1,11 @@
 //! The lines of a journal's records.
 ghost use Rattle.std.specs.Prelude.{◌≡◌, ◌++◌, ◌+◌, ◌^◌, ◌<◌, length, OnOk};
-ghost use Rattle.std.specs.Fmt.{signed_decimal};
-ghost use Rattle.wf_audit.specs.Replies.{value_text, vars_text};
 ghost use Rattle.wf_trail.specs.Lines as spec;
 
-use itoa::Buffer;
-use wf_model::{Bytes, Chart, NoMemory, Outer, Output, Update, Val};
+use wf_audit::append_vars;
+use wf_model::{Bytes, Chart, NoMemory, Outer, Update};
 use wf_steps::{Admission, TurnDone};
-use wf_words::{act_name, add_transitions, append_number, event_name, var_name};
-
-fn append_int(text: &mut Bytes, number: i64) -> Result<(), NoMemory>
-    ensures { OnOk result (text.new ≡ text.old ++ signed_decimal number) }
-{
-    let mut digits = Buffer::new();
-    text.append(digits.format(number).as_bytes())
-}
-
-fn append_value(text: &mut Bytes, value: &Val) -> Result<(), NoMemory>
-    ensures { OnOk result (text.new ≡ text.old ++ value_text value.now) }
-{
-    match value {
-        Val::Bool(true) => text.append(b"true"),
-        Val::Bool(false) => text.append(b"false"),
-        Val::Int(number) => append_int(text, *number),
-        Val::Text(chars) => {
-            text.push(b'"')?;
-            text.append(chars.as_slice())?;
-            text.push(b'"')
-        }
-    }
-}
-
-fn append_outputs(text: &mut Bytes, chart: &Chart, outputs: &[Output]) -> Result<(), NoMemory>
-    ensures { OnOk result (text.new ≡ text.old ++ vars_text chart.now outputs.now) }
-{
-    for output in outputs {
-        text.append(b" ")?;
-        text.append(var_name(chart, output.var))?;
-        text.append(b"=")?;
-        append_value(text, &output.val)?;
-    }
-    Ok(())
-}
+use wf_words::{act_name, add_transitions, append_number, event_name};
 
 fn append_outer(text: &mut Bytes, chart: &Chart, outer: &Outer) -> Result<(), NoMemory>
     ensures { OnOk result (text.new ≡ text.old ++ spec.outer_text chart.now outer.now) }
@@ -56,7 +20,7 @@ fn append_outer(text: &mut Bytes, chart: &Chart, outer: &Outer) -> Result<(), No
             text.append(act_name(chart, *act))?;
             text.append(b"#")?;
             append_number(text, (*item).into())?;
-            append_outputs(text, chart, outputs.as_slice())
+            append_vars(text, chart, outputs.as_slice())
         }
     }
 }

@@ -3,6 +3,7 @@ ghost use Rattle.std.specs.Prelude.{◌≡◌, ◌≤◌, List, ℕ, Some, lengt
 ghost use Rattle.wf_disk.specs.Disk.{HasCause, IsSame};
 ghost use Rattle.wf_journal.specs.Journal.{IsPlace};
 ghost use Rattle.wf_journal.specs.Frames.{bodies_of};
+ghost use Rattle.wf_journal.specs.Start.{LeavesStart};
 ghost use Rattle.wf_steps.specs.Records.{history_of};
 ghost use Rattle.wf_trail.specs.Images as spec;
 ghost use Rattle.wf_trail.specs.Telling.{start_fault, IsKept};
@@ -78,6 +79,7 @@ fn read_journal<D: Disk>(alloc: Global, part: Part, disk: D) -> Reading<D>
     ensures part { IfOk result.kept (λ kept. IfSome kept (λ replica. replica.part ≡ part)) }
     ensures kept { (file : List ℕ) → (D.told disk).image ≡ Some file → IsKept (spec.kept_in part file) result.kept }
     ensures image { (D.told result.disk).image ≡ (D.told disk).image }
+    ensures crash { LeavesStart (D.told disk) (D.told result.disk) }
     ensures cause { HasCause (D.told disk) (D.told result.disk) (IsErrOf result.kept RecoverFault.DiskFailed) }
 {
     match Journal::start(alloc, disk) {
@@ -102,6 +104,7 @@ fn read_sized<D: Disk>(alloc: Global, part: Part, disk: D, size: u64) -> Reading
     ensures part { IfOk result.kept (λ kept. IfSome kept (λ replica. replica.part ≡ part)) }
     ensures kept { (file : List ℕ) → (D.told disk).image ≡ Some file → IsKept (spec.kept_in part file) result.kept }
     ensures image { (D.told result.disk).image ≡ (D.told disk).image }
+    ensures crash { LeavesStart (D.told disk) (D.told result.disk) }
     ensures cause { HasCause (D.told disk) (D.told result.disk) (IsErrOf result.kept RecoverFault.DiskFailed) }
 {
     if size < FEWEST_BYTES {
@@ -118,6 +121,7 @@ pub fn read_disk<D: Disk>(alloc: Global, part: Part, disk: D) -> Reading<D>
     ensures part { IfOk result.kept (λ kept. IfSome kept (λ replica. replica.part ≡ part)) }
     ensures kept { (file : List ℕ) → (D.told disk).image ≡ Some file → IsKept (spec.kept_in part file) result.kept }
     ensures image { (D.told result.disk).image ≡ (D.told disk).image }
+    ensures crash { LeavesStart (D.told disk) (D.told result.disk) }
     ensures cause { HasCause (D.told disk) (D.told result.disk) (IsErrOf result.kept RecoverFault.DiskFailed) }
 {
     let mut disk = disk;

@@ -1,13 +1,14 @@
 //! The trail of all units, by the disks of a shelf.
 ghost use Rattle.std.specs.Prelude.{◌≡◌, ◌≢◌, ◌⊎◌, ◌↔◌, ◌+◌, ◌^◌, ◌≤◌, ◌<◌, List, ℕ, None, Some, length, is_some, option_map, IsTrue, MatchResult, IfOk, IfErr, IfSome, IsSome, IsOk, OnOk, OnErr, IsErrOf, IsErrAnd};
 ghost use Rattle.wf_model.specs.Faults.{Rose};
-ghost use Rattle.wf_disk.specs.Disk.{HasCause};
+ghost use Rattle.wf_disk.specs.Disk.{HasCause, IsLawful};
 ghost use Rattle.wf_disk.specs.Shelf.{KeepsDisk, IsTaken};
+ghost use Rattle.wf_journal.specs.Start.{LeavesStart};
 ghost use Rattle.wf_parts.specs.Components.{flat_of};
 ghost use Rattle.wf_parts.specs.Parts.{part_of};
 ghost use Rattle.wf_trail.specs.TrailText.{unit_text};
 ghost use Rattle.wf_trail.specs.Images as spec;
-ghost use Rattle.wf_trail.specs.Shelves.{Tells, KeepsDisks, IsOfDisk, IsOfUnits};
+ghost use Rattle.wf_trail.specs.Shelves.{Tells, KeepsDisks, KeepsBodies, IsOfDisk, IsOfUnits};
 ghost use Rattle.wf_trail.specs.Telling.{TellsBy, TellsBoth, TellsShort, TellsUnit, ComesBack, IsFree, HasCauses, NamesUnits, take_fault, first_loss};
 
 use crate::TrailFault;
@@ -92,6 +93,8 @@ fn read_unit<D: Disk>(
     ensures text { (file : List ℕ) → (D.told disk).image ≡ Some file →
         spec.MayTell (spec.text_by checked.now unit.0 (spec.kept_in (part_of checked.now unit.0) file)) result.text }
     ensures image { (D.told result.disk).image ≡ (D.told disk).image }
+    ensures crash { LeavesStart (D.told disk) (D.told result.disk) }
+    ensures lawful { IsLawful (D.told result.disk) }
     ensures cause { HasCause (D.told disk) (D.told result.disk) (IsErrAnd result.text IsOfDisk) }
     ensures unit { IfErr result.text (IsOfUnits (length checked.now.units)) }
 {
@@ -194,6 +197,7 @@ fn take_disk<H: DiskShelf>(shelf: &mut H, unit: UnitId, name: &Name) -> Result<H
     ensures others { (n : List ℕ) → n ≢ name.now → KeepsDisk n (H.told shelf.old) (H.told shelf.new) }
     ensures same { OnOk result ((H.told shelf.new).faults ≡ (H.told shelf.old).faults) }
     ensures kept { OnErr result (KeepsDisks (H.told shelf.old) (H.told shelf.new)) }
+    ensures bodies { OnErr result (KeepsBodies (H.told shelf.old) (H.told shelf.new)) }
     ensures free { IfErr result IsFree }
     ensures later { (H.told shelf.old).faults ≤ (H.told shelf.new).faults }
     ensures rose { IsErrAnd result IsOfDisk → Rose (H.told shelf.old).faults (H.told shelf.new).faults }
@@ -204,6 +208,11 @@ fn take_disk<H: DiskShelf>(shelf: &mut H, unit: UnitId, name: &Name) -> Result<H
         Err(refused) => Err(take_fault(unit, refused)),
     }
 }
+
+// Tells the prover what holds of every disk. It does nothing.
+fn is_a_disk<D: Disk>(disk: &D)
+    ensures { IsLawful (D.told disk.now) }
+{}
 
 // Takes the disks of the units with these names, the first of which has this number. Once all are out it reads them, from the last to
 // the first, and gives each back. If one isn't handed out, none is read, and those that are out are given back.
@@ -222,6 +231,7 @@ fn trail_from<H: DiskShelf>(
         IfOk result (λ trail. spec.MayTell (spec.trail_from checked.now images unit.0 names.now) trail.text) }
     ensures free { IfErr result IsFree }
     ensures disks { KeepsDisks (H.told shelf.old) (H.told shelf.new) }
+    ensures bodies { KeepsBodies (H.told shelf.old) (H.told shelf.new) }
     ensures later { (H.told shelf.old).faults ≤ (H.told shelf.new).faults }
     ensures rose { IsErrAnd result IsOfDisk → Rose (H.told shelf.old).faults (H.told shelf.new).faults }
     ensures causes { IfOk result (HasCauses (H.told shelf.old).faults (H.told shelf.new).faults) }
@@ -238,6 +248,7 @@ fn trail_from<H: DiskShelf>(
     match trail_from(alloc, checked, flat, shelf, UnitId(unit.0 + 1), others) {
         Ok(rest) => Ok(tell_unit(alloc, checked, flat, shelf, unit, name, disk, rest)),
         Err(fault) => {
+            is_a_disk(&disk);
             let _ = shelf.give(name, disk);
             Err(fault)
         }
@@ -262,9 +273,10 @@ fn finish(trail: Trails) -> Result<Bytes, TrailFault>
 }
 
 /// What the journals of the chart's units tell, a line for each record. All disks are taken before the first is read, and each is
-/// given back, with its image as it was, whatever is answered. `Foreign` and `Bad` are of the first unit, in order, whose journal is
-/// wrong, and of the first record of it. `TooLong` comes if the text has more than `MAX_REPORT` bytes, `NoMemory` if memory runs out, and
-/// `DiskFailed` only if the shelf's count of faults rose. A unit that is named is one of the chart's.
+/// given back, with its image as it was, whatever is answered. A crash meanwhile leaves of each the bodies of what a crash before
+/// might have left. `Foreign` and `Bad` are of the first unit, in order, whose journal is wrong, and of the first record of it.
+/// `TooLong` comes if the text has more than `MAX_REPORT` bytes, `NoMemory` if memory runs out, and `DiskFailed` only if the shelf's
+/// count of faults rose. A unit that is named is one of the chart's.
 ///
 /// Linear in the journals and in what is written, and for each Turn in its unit's part and view.
 #[tactic(auto, unfolding(crate::specs::Images::trail_of))]
@@ -275,6 +287,7 @@ pub fn trail<H: DiskShelf>(
 ) -> Result<Bytes, TrailFault>
     ensures text { (images : List ℕ → List ℕ) → Tells (H.told shelf.old) images → spec.MayTell (spec.trail_of checked.now images) result }
     ensures disks { KeepsDisks (H.told shelf.old) (H.told shelf.new) }
+    ensures bodies { KeepsBodies (H.told shelf.old) (H.told shelf.new) }
     ensures later { (H.told shelf.old).faults ≤ (H.told shelf.new).faults }
     ensures rose { IsErrAnd result IsOfDisk → Rose (H.told shelf.old).faults (H.told shelf.new).faults }
     ensures kept { IsOk result → (H.told shelf.new).faults ≡ (H.told shelf.old).faults }

@@ -5,9 +5,11 @@ use Rattle.wf_disk.proofs.Runs.{cause_since}
 use Rattle.wf_histories.specs.Histories.{History}
 use Rattle.wf_steps.specs.declared.fault.RecoverFault.{RecoverFault}
 use Rattle.wf_steps.specs.declared.fault.RecoverFault.TheVariants as steps
+use Rattle.wf_journal.specs.Start.{LeavesStart}
 use Rattle.wf_trail.specs.Images.{kept_in}
 use Rattle.wf_trail.specs.Telling.{IsKept, IsFault}
 use Rattle.wf_trail.proofs.Readings.{whole_is, start_fault_is, image_kept, cause_start}
+use Rattle.wf_trail.proofs.Crashes.{then_still}
 use Rattle.wf_trail.proofs.reading.read_journal.Goals as goal
 
 pub returns-in-Ok-clause-kept : goal.returns-in-Ok-clause-kept
@@ -27,6 +29,11 @@ pub returns-in-Ok-clause-cause : goal.returns-in-Ok-clause-cause
 returns-in-Ok-clause-cause g c =
     let P : g.row.D.Denot → Type 0 = λ d. HasCause (g.D.Disk.told c.args.disk) (g.D.Disk.told d) (IsErrOf c.replica_in-kept.result steps.DiskFailed) in
     subst P (sym c.close.ensures) (cause_since _ _ _ _ _ c.in-Ok.ensures.faults c.replica_in-kept.ensures.cause (λ failed. failed) (λ failed. failed))
+
+pub returns-in-Ok-clause-crash : goal.returns-in-Ok-clause-crash
+returns-in-Ok-clause-crash g c =
+    let P : g.row.D.Denot → Type 0 = λ d. LeavesStart (g.D.Disk.told c.args.disk) (g.D.Disk.told d) in
+    subst P (sym c.close.ensures) (then_still _ _ _ c.in-Ok.ensures.any_moment c.replica_in-kept.ensures.same)
 
 pub returns-in-Err-clause-kept : goal.returns-in-Err-clause-kept
 returns-in-Err-clause-kept g c = λ file image.

@@ -6,7 +6,8 @@ use Rattle.wf_trail.specs.Images.{MayTell, trail_from}
 use Rattle.wf_trail.specs.Shelves.{KeepsDisks, IsOfDisk, IsOfUnits}
 use Rattle.wf_trail.specs.Telling.{IsFree, HasCauses}
 use Rattle.wf_trail.proofs.Texts.{from_tells, none_tell, names_split, no_names}
-use Rattle.wf_trail.proofs.Leaving.{nothing_left, tells_others, is_out, comes_back, all_kept, none_causes, none_named, rose_on}
+use Rattle.wf_trail.proofs.Leaving.{nothing_left, tells_others, is_out, all_kept, none_causes, none_named, rose_on}
+use Rattle.wf_trail.proofs.Crashes.{unread, nothing_lost, all_left}
 use Rattle.wf_trail.proofs.shelf.+trail_from.Goals as goal
 
 -- ---- no unit
@@ -18,6 +19,9 @@ returns-in_default-clause-text g t c = λ images tells.
 
 pub returns-in_default-clause-disks : goal.returns-in_default-clause-disks
 returns-in_default-clause-disks g t c = nothing_left (g.H.DiskShelf.told c.args.shelf.now)
+
+pub returns-in_default-clause-bodies : goal.returns-in_default-clause-bodies
+returns-in_default-clause-bodies g t c = nothing_lost (g.H.DiskShelf.told c.args.shelf.now)
 
 pub returns-in_default-clause-causes : goal.returns-in_default-clause-causes
 returns-in_default-clause-causes g t c = none_causes (g.H.DiskShelf.told c.args.shelf.now) c.new.result
@@ -34,6 +38,9 @@ returns-in_err-disk-clause-free g t c =
 
 pub returns-in_err-disk-clause-disks : goal.returns-in_err-disk-clause-disks
 returns-in_err-disk-clause-disks g t c = c.in_err-disk.ensures.kept
+
+pub returns-in_err-disk-clause-bodies : goal.returns-in_err-disk-clause-bodies
+returns-in_err-disk-clause-bodies g t c = c.in_err-disk.ensures.bodies
 
 pub returns-in_err-disk-clause-later : goal.returns-in_err-disk-clause-later
 returns-in_err-disk-clause-later g t c = c.take_disk.ensures.later
@@ -67,6 +74,10 @@ returns-in-Ok-clause-text g t c = λ images tells.
 pub returns-in-Ok-clause-disks : goal.returns-in-Ok-clause-disks
 returns-in-Ok-clause-disks g t c = all_kept _ _ _ _ _ _ c.in_ok-disk.ensures.taken c.take_disk.ensures.others c.trail_from.ensures.disks c.tell_unit.ensures.back
 
+pub returns-in-Ok-clause-bodies : goal.returns-in-Ok-clause-bodies
+returns-in-Ok-clause-bodies g t c = λ images tells.
+    all_left _ _ _ _ _ _ c.in_ok-disk.ensures.taken c.take_disk.ensures.others c.trail_from.ensures.disks c.trail_from.ensures.bodies c.tell_unit.ensures.back images tells
+
 pub returns-in-Ok-clause-causes : goal.returns-in-Ok-clause-causes
 returns-in-Ok-clause-causes g t c =
     let P : ℕ → Type 0 = λ n. HasCauses n (g.H.DiskShelf.told c.trail_from.new.shelf).faults c.in-Ok.rest in
@@ -85,7 +96,13 @@ give-requires g t c = record { out = is_out _ _ _ _ _ c.in_ok-disk.ensures.taken
 
 pub returns-in-Err-clause-disks : goal.returns-in-Err-clause-disks
 returns-in-Err-clause-disks g t c =
-    all_kept _ _ _ _ _ _ c.in_ok-disk.ensures.taken c.take_disk.ensures.others c.trail_from.ensures.disks (comes_back _ _ _ _ _ c.give.ensures.given c.give.ensures.others refl)
+    all_kept _ _ _ _ _ _ c.in_ok-disk.ensures.taken c.take_disk.ensures.others c.trail_from.ensures.disks
+    (unread _ _ _ _ c.is_a_disk.ensures c.give.ensures.given c.give.ensures.others)
+
+pub returns-in-Err-clause-bodies : goal.returns-in-Err-clause-bodies
+returns-in-Err-clause-bodies g t c = λ images tells.
+    all_left _ _ _ _ _ _ c.in_ok-disk.ensures.taken c.take_disk.ensures.others c.trail_from.ensures.disks c.trail_from.ensures.bodies
+    (unread _ _ _ _ c.is_a_disk.ensures c.give.ensures.given c.give.ensures.others) images tells
 
 pub returns-in-Err-clause-later : goal.returns-in-Err-clause-later
 returns-in-Err-clause-later g t c = let same = c.in_ok-disk.ensures.same in let more = c.give.ensures.cause.later in omega (arith, same, more, c.trail_from.ensures.later)

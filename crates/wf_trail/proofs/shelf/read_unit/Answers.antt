@@ -5,6 +5,7 @@ use Rattle.wf_parts.specs.declared.data.PartData.{PartData}
 use Rattle.wf_parts.specs.Parts.{part_of}
 use Rattle.wf_trail.specs.Images.{kept_in}
 use Rattle.wf_trail.specs.Telling.{IsKept}
+use Rattle.wf_trail.proofs.Crashes.{idle}
 use Rattle.wf_trail.proofs.shelf.read_unit.Goals as goal
 
 pub text_by-text-requires-clause-part : goal.text_by-text-requires-clause-part
@@ -22,3 +23,12 @@ returns-in-Ok-clause-cause g c = cause_since _ _ _ _ _ refl c.read_disk-disk.ens
 
 pub returns-in-Err-clause-cause : goal.returns-in-Err-clause-cause
 returns-in-Err-clause-cause g c = cause_none _ _ _ refl (λ failed. failed)
+
+pub returns-in-Err-clause-crash : goal.returns-in-Err-clause-crash
+returns-in-Err-clause-crash g c = idle _ (g.met.D.Disk.lawful c.args.disk)
+
+pub returns-in-Ok-clause-lawful : goal.returns-in-Ok-clause-lawful
+returns-in-Ok-clause-lawful g c = g.met.D.Disk.lawful c.read_disk-disk.result.disk
+
+pub returns-in-Err-clause-lawful : goal.returns-in-Err-clause-lawful
+returns-in-Err-clause-lawful g c = g.met.D.Disk.lawful c.args.disk

@@ -4,6 +4,7 @@ use Rattle.wf_trail.specs.declared.fault.TrailFault.{TrailFault}
 use Rattle.wf_trail.specs.Shelves.{IsOfDisk, IsOfUnits}
 use Rattle.wf_trail.specs.Telling.{IsFree}
 use Rattle.wf_trail.proofs.Leaving.{refused_keeps, take_is_free, take_failed, take_unit}
+use Rattle.wf_trail.proofs.Crashes.{refused_bodies}
 use Rattle.wf_trail.proofs.shelf.take_disk.Goals as goal
 
 pub returns-in-Ok-clause-same : goal.returns-in-Ok-clause-same
@@ -14,6 +15,9 @@ returns-in-Ok-clause-later g c = c.take.ensures.cause.later
 
 pub returns-in-Err-clause-kept : goal.returns-in-Err-clause-kept
 returns-in-Err-clause-kept g c = refused_keeps c.args.name.now _ _ (c.in-Err.ensures.refused refl) c.take.ensures.others
+
+pub returns-in-Err-clause-bodies : goal.returns-in-Err-clause-bodies
+returns-in-Err-clause-bodies g c = refused_bodies c.args.name.now _ _ (c.in-Err.ensures.refused refl) c.take.ensures.others
 
 pub returns-in-Err-clause-free : goal.returns-in-Err-clause-free
 returns-in-Err-clause-free g c = subst IsFree (sym c.take_fault.ensures) (take_is_free c.args.unit c.in-Err.refused)

@@ -1,12 +1,14 @@
 use Rattle.std.proofs.Common.{◌∙◌}
-use Rattle.wf_trail.proofs.Leaving.{comes_back, all_causes}
+use Rattle.wf_trail.proofs.Leaving.{all_causes}
+use Rattle.wf_trail.proofs.Crashes.{comes_back}
 use Rattle.wf_trail.proofs.shelf.tell_unit.Goals as goal
 
 pub returns-clause-text : goal.returns-clause-text
 returns-clause-text g c = λ file others image rest. c.join.ensures.text _ others (c.read_unit-disk.ensures.text file image) rest
 
 pub returns-clause-back : goal.returns-clause-back
-returns-clause-back g c = comes_back _ _ _ _ _ c.give-given.ensures.given c.give-given.ensures.others c.read_unit-disk.ensures.image
+returns-clause-back g c =
+    comes_back c.args.name.now _ _ _ _ c.read_unit-disk.ensures.lawful c.give-given.ensures.given c.read_unit-disk.ensures.crash c.give-given.ensures.others c.read_unit-disk.ensures.image
 
 pub returns-clause-causes : goal.returns-clause-causes
 returns-clause-causes g c = λ before causes.

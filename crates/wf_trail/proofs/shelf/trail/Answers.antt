@@ -8,6 +8,7 @@ use Rattle.wf_trail.specs.Images.{MayTell, trail_of, trail_from, short_text}
 use Rattle.wf_trail.specs.Shelves.{IsOfDisk, IsOfUnits}
 use Rattle.wf_trail.proofs.Texts.{free_tells}
 use Rattle.wf_trail.proofs.Leaving.{nothing_left, ends_rose}
+use Rattle.wf_trail.proofs.Crashes.{nothing_lost}
 use Rattle.wf_trail.proofs.shelf.trail.Goals as goal
 
 -- ---- no memory for the components
@@ -19,6 +20,9 @@ returns-in_err-flat-clause-text g c = λ images tells.
 
 pub returns-in_err-flat-clause-disks : goal.returns-in_err-flat-clause-disks
 returns-in_err-flat-clause-disks g c = nothing_left (g.H.DiskShelf.told c.args.shelf.now)
+
+pub returns-in_err-flat-clause-bodies : goal.returns-in_err-flat-clause-bodies
+returns-in_err-flat-clause-bodies g c = nothing_lost (g.H.DiskShelf.told c.args.shelf.now)
 
 pub returns-in_err-flat-clause-rose : goal.returns-in_err-flat-clause-rose
 returns-in_err-flat-clause-rose g c = λ of.

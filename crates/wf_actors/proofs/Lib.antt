@@ -1,5 +1,6 @@
 mod Receiving
 mod Rows
+mod Gathers
 mod Takings
 mod Beginnings
 mod Keepings

@@ -20,15 +20,17 @@ mod desk;
 mod handing;
 mod keeping;
 mod outbox;
+mod pairs;
 mod stepping;
 mod stop;
 mod taking;
 mod unit;
 
-pub use answering::answer_all;
+pub use answering::{answer_all, settle_desk};
 pub use desk::{Answer, Desk};
 pub use handing::hand_over;
 pub use outbox::Outbox;
+pub use pairs::hand_over_all;
 pub use stepping::{take_in_all, take_steps};
 pub use stop::Stop;
 pub use unit::UnitActor;

@@ -17,3 +17,5 @@ mod Stepped
 mod Going
 mod Turning
 mod Working
+mod Pairings
+mod Changing

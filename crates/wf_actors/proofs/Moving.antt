@@ -34,7 +34,7 @@ pub popped_same : (a b : Port) (v : ℕ) → SameMouths a b v → popped_from b 
 popped_same a b v same = ap (λ o. option_map_or popped o []) same
 
 -- from all units
-popped_all : (a b : Port) → ((v : ℕ) → SameMouths a b v) → popped_from b ≡ popped_from a
+pub popped_all : (a b : Port) → ((v : ℕ) → SameMouths a b v) → popped_from b ≡ popped_from a
 popped_all a b same = λ i v. popped_same a b v (same v) i
 
 module _ {D : Type 0} (told : D → Told) where

@@ -1,12 +1,12 @@
 -- What all units are, as two of them are handed what the other sent.
-use Rattle.std.proofs.Common.{◌≡◌, ◌≢◌, ℕ, zero, suc, ◌+◌, ◌<◌, List, [], ◌∷◌, ◌++◌, length, map, get_or, Option, Some, option_map, slice_get, refl, sym, ap, ◌∙◌, subst, arith}
+use Rattle.std.proofs.Common.{◌≡◌, ◌≢◌, ℕ, zero, suc, ◌+◌, ◌<◌, List, [], ◌∷◌, ◌++◌, length, map, get_or, Some, option_map, slice_get, refl, sym, ap, ◌∙◌, subst, arith}
 use Rattle.std.specs.Prelude.{slice_set}
 use Rattle.std.proofs.lemmas.Option.{slice_get_within, slice_get-get_or}
 use native.Mathlib.Decide.{ℕ_discrete}
-use Rattle.wf_exchange.specs.Ports.{Ways, ways, unit_of, AllJoined}
+use Rattle.wf_exchange.specs.Ports.{AllJoined}
 use Rattle.wf_exchange.proofs.Places.{got_other, some_same}
 use Rattle.wf_actors.specs.declared.unit.UnitActor.{UnitActor}
-use Rattle.wf_actors.specs.Pairs.{Traffic, HasAll, AreApart, IsUnit, AreUnits, TakesOver, AllTakeOver, HasAllOf, ways_of, traffic, traffic_at}
+use Rattle.wf_actors.specs.Pairs.{HasAll, AreApart, IsUnit, AreUnits, TakesOver, AllTakeOver, HasAllOf, ways_of, traffic, traffic_at}
 use Rattle.wf_actors.proofs.Pairings.{takes_stay, takes_then, is_unit_stays}
 
 -- A LIST IN WHICH TWO PLACES CHANGED

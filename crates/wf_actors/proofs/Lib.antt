@@ -5,17 +5,17 @@ mod Takings
 mod Beginnings
 mod Keepings
 mod Outcomes
-mod Peering
-mod Sends
-mod Moving
+pub mod Peering
+pub mod Sends
+pub mod Moving
 mod Short
-mod Answered
+pub mod Answered
 mod Full
 mod Said
-mod Admitting
+pub mod Admitting
 mod Stepped
 mod Going
 mod Turning
 mod Working
-mod Pairings
-mod Changing
+pub mod Pairings
+pub mod Changing

@@ -1,12 +1,11 @@
 -- What is handed over, unit by unit and pair by pair.
-use Rattle.std.proofs.Common.{◌≡◌, ◌≢◌, ℕ, zero, suc, ◌+◌, ◌<◌, ◌≤◌, Bool, List, [], ◌∷◌, ◌++◌, length, map, get_or, Option, Some, None, option_map, slice_get, refl, sym, ap, ◌∙◌, subst, arith, length-set}
+use Rattle.std.proofs.Common.{◌≡◌, ◌≢◌, ℕ, zero, suc, ◌<◌, Bool, List, [], ◌∷◌, ◌++◌, length, map, get_or, Option, Some, slice_get, refl, sym, ap, ◌∙◌, subst, arith, length-set}
 use Rattle.std.specs.Prelude.{slice_set}
 use Rattle.std.specs.Vec.{with_item}
 use Rattle.std.specs.Option.{option_map_or}
 use Rattle.std.proofs.lemmas.List.{append-nil}
-use Rattle.std.proofs.lemmas.Option.{slice_get_within, slice_get-get_or}
+use Rattle.std.proofs.lemmas.Option.{slice_get_within}
 use native.Mathlib.Decide.{ℕ_discrete}
-use Rattle.wf_model.specs.declared.update.Update.{Update}
 use Rattle.wf_exchange.specs.declared.port.Port.{Port}
 use Rattle.wf_exchange.specs.Rings.{pushed}
 use Rattle.wf_exchange.specs.Ports.{Ways, ways, unit_of, AreJoined, AllJoined, pushed_to, popped_from, SameEnds, SameMouths}
@@ -18,7 +17,7 @@ use Rattle.wf_actors.specs.declared.unit.UnitActor.{UnitActor}
 use Rattle.wf_actors.specs.Taking.{Nearby, TakesMore}
 use Rattle.wf_actors.specs.Peers.{TakesRows}
 use Rattle.wf_actors.specs.Sendings.{sent_on, waiting_for}
-use Rattle.wf_actors.specs.Pairs.{Traffic, HasAll, IsUnit, AreUnits, MayTakeOver, TakesOver, traffic, ways_of}
+use Rattle.wf_actors.specs.Pairs.{Traffic, IsUnit, AreUnits, MayTakeOver, TakesOver, ways_of}
 use Rattle.wf_actors.proofs.Moving.{popped_same, popped_all}
 use Rattle.wf_actors.proofs.Peering.{rows_stay, rows_then, rows_more}
 

@@ -13,7 +13,7 @@ use Rattle.wf_worlds.proofs.Growing.{turn_takes}
 use Rattle.wf_server.specs.Servers.{Server, held, held_in, inputs_of, with_turn}
 use Rattle.wf_server.specs.Inbox.{IsPeer, AllCame, IsInbox}
 use Rattle.wf_actors.specs.Taking.{IsRow, IsFull, TakesMore, Anywhere, KeepsHeld, ComesMore}
-use Rattle.wf_actors.specs.Peers.{AreRows, ReachTo, KeptWhatCame, HasTaken, WouldHaveTaken, TakesRows}
+use Rattle.wf_actors.specs.Peers.{AreRows, ReachTo, KeptWhatCame, HasTaken, TakesRows}
 use Rattle.wf_actors.proofs.Rows.{comes_none, still_there, row_before}
 use Rattle.wf_actors.proofs.Gathers.{gather_more, all_gathered}
 

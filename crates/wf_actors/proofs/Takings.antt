@@ -2,7 +2,6 @@
 use Rattle.std.proofs.Common.{◌≡◌, ◌⊎◌, inl, inr, ⊎_elim, ℕ, zero, suc, ◌+◌, ◌-◌, ◌<◌, ◌≤◌, Bool, false, List, [], ◌∷◌, ◌++◌, length, Some, None, is_some, slice_get, refl, sym, ap, ◌∙◌, subst, arith}
 use native.Mathlib.Decide.{ℕ_discrete}
 use Rattle.wf_model.specs.declared.update.Update.{Update}
-use Rattle.wf_parts.specs.declared.data.PartData.{PartData}
 use Rattle.wf_histories.specs.Histories.{taken}
 use Rattle.wf_server.specs.Servers.{Server, held}
 use Rattle.wf_server.specs.Inbox.{IsPeer, IsUpdateOf}

@@ -1,8 +1,7 @@
 //! What is handed over between all units after a round.
-ghost use Rattle.std.specs.Prelude.{◌≡◌, ◌≢◌, ◌<◌, ℕ, [], length, map};
-ghost use Rattle.wf_exchange.specs.Ports.{unit_of, pushed_to, popped_from, AllJoined};
-ghost use Rattle.wf_actors.specs.Sendings.{waiting_for};
-ghost use Rattle.wf_actors.specs.Pairs.{HasAll, IfBoth, AreApart, MayTakeOver, TakesOver, AllTakeOver, AreUnits, HasAllOf, ways_of, traffic, traffic_at};
+ghost use Rattle.std.specs.Prelude.{◌≡◌, ◌≢◌, ◌<◌, ℕ, length, map};
+ghost use Rattle.wf_exchange.specs.Ports.{unit_of, popped_from, AllJoined};
+ghost use Rattle.wf_actors.specs.Pairs.{HasAll, AreApart, MayTakeOver, TakesOver, AllTakeOver, AreUnits, HasAllOf, ways_of, traffic, traffic_at};
 
 use crate::handing::hand_over;
 use crate::unit::UnitActor;
@@ -82,6 +81,8 @@ fn exchange_with<D: Disk>(units: &mut [UnitActor<D>], second: usize)
 pub fn hand_over_all<D: Disk>(units: &mut [UnitActor<D>])
     requires joined { AllJoined (map ways_of units.old) }
     requires units { AreUnits units.old }
+    ensures ways { map ways_of units.new ≡ map ways_of units.old }
+    ensures units { AreUnits units.new }
     ensures each { AllTakeOver units.old units.new }
     ensures all { (u v : ℕ) → u ≢ v → u < length units.old → v < length units.old → HasAllOf units.new u v }
 {

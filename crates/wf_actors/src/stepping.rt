@@ -1,5 +1,5 @@
 //! How a unit takes its steps in a round.
-ghost use Rattle.std.specs.Prelude.{◌≡◌, ◌≢◌, ◌⊎◌, ◌+◌, ◌<◌, ◌≤◌, ℕ, Bool, true, false, Ok, Err, List, [], ◌∷◌, ◌++◌, length, IsTrue, IsFalse, IfErr, IfSome, OnOk, OnErr, IsErrOf};
+ghost use Rattle.std.specs.Prelude.{◌≡◌, ◌≢◌, ◌⊎◌, ◌+◌, ◌<◌, ◌≤◌, ℕ, Bool, true, false, Ok, Err, [], ◌∷◌, ◌++◌, length, IsTrue, IsFalse, IfErr, IfSome, OnOk, OnErr, IsErrOf};
 ghost use Rattle.wf_histories.specs.Histories.{taken};
 ghost use Rattle.wf_exchange.specs.Ports.{ways, popped_from, CanReach, SameEnds, SameMouths};
 ghost use Rattle.wf_server.specs.Servers.{held, told_by, with_turn};

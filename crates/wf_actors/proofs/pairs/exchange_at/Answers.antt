@@ -1,4 +1,4 @@
-use Rattle.std.proofs.Common.{◌≡◌, ◌≢◌, ◌<◌, length, get_or, ◌∙◌, subst, arith}
+use Rattle.std.proofs.Common.{◌<◌, length, get_or, ◌∙◌, subst, arith}
 use Rattle.wf_exchange.specs.Ports.{unit_of}
 use Rattle.wf_actors.specs.Pairs.{HasAll, traffic}
 use Rattle.wf_actors.proofs.Pairings.{two_may}

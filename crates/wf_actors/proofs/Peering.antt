@@ -14,7 +14,7 @@ use Rattle.wf_server.specs.Servers.{Server, held, held_in, inputs_of, with_turn}
 use Rattle.wf_server.specs.Inbox.{IsPeer, AllCame, IsInbox}
 use Rattle.wf_actors.specs.Taking.{IsRow, IsFull, TakesMore, Anywhere, KeepsHeld, ComesMore}
 use Rattle.wf_actors.specs.Peers.{AreRows, ReachTo, KeptWhatCame, HasTaken, TakesRows}
-use Rattle.wf_actors.proofs.Rows.{comes_none, still_there, row_before}
+use Rattle.wf_actors.proofs.Rows.{comes_none, comes_then, still_there, row_before}
 use Rattle.wf_actors.proofs.Gathers.{gather_more, all_gathered}
 
 -- WHAT A TURN KEPT, after one more
@@ -50,10 +50,14 @@ module _ {D : Type 0} where
 
   -- nothing came
   pub rows_stay : (reach : ℕ → ℕ → Type 0) (s : Server D) (came : ℕ → List Update) (refused : Bool) → TakesRows reach s s came came refused refused
-  rows_stay reach s came refused = record { takes = (λ opened first was. was) }
+  rows_stay reach s came refused = record { comes = (λ v. comes_none (came v) (came v) refl); takes = (λ opened first was. was) }
 
   pub rows_then : (reach : ℕ → ℕ → Type 0) (a b c : Server D) (ca cb cc' : ℕ → List Update) (ra rb rc : Bool) → TakesRows reach a b ca cb ra rb → TakesRows reach b c cb cc' rb rc → TakesRows reach a c ca cc' ra rc
-  rows_then reach a b c ca cb cc' ra rb rc p q = record { takes = (λ opened first was. q.takes opened first (p.takes opened first was)) }
+  rows_then reach a b c ca cb cc' ra rb rc p q =
+      record {
+        comes = (λ v. comes_then (ca v) (cb v) (cc' v) (p.comes v) (q.comes v));
+        takes = (λ opened first was. q.takes opened first (p.takes opened first was));
+      }
 
   full_same : (v first : ℕ) (old new : Server D) (came came_now : List Update) → taken new.past ≡ taken old.past → ((s : ℕ) → held new v s ≡ held old v s) → came_now ≡ came → IsFull v first old came → IsFull v first new came_now
   full_same v first old new came came_now steps same e f =
@@ -71,6 +75,7 @@ module _ {D : Type 0} where
       → TakesRows reach old new came came refused refused
   rows_kept reach old new came refused part turns same =
       record {
+        comes = (λ v. comes_none (came v) (came v) refl);
         takes = (λ opened first was rows near.
             let h = was (subst (λ p. AreRows p first came) part rows)
             (λ v peer. subst (λ n. reach (first v + length (came v)) n) steps (near v (subst (λ p. IsPeer p v) (sym part) peer))) in
@@ -90,6 +95,7 @@ module _ {D : Type 0} where
       → ((v s : ℕ) → taken old.past + 1 < s → held new v s ≡ held old v s) → TakesRows Anywhere old new came came refused refused
   rows_later old new came refused part past all inbox later =
       record {
+        comes = (λ v. comes_none (came v) (came v) refl);
         takes = (λ opened first was rows near.
             let h = was (subst (λ p. AreRows p first came) part rows) (λ v peer. tt) in
             record {
@@ -130,6 +136,7 @@ module _ {D : Type 0} where
       → IsPeer old.part v → ((u : ℕ) → u ≢ v → came_now u ≡ came u) → TakesMore reach v old new (came v) (came_now v) refused refused_now → TakesRows reach old new came came_now refused refused_now
   rows_more reach v old new came came_now refused refused_now lower peer others more =
       record {
+        comes = (λ u. comes u (ℕ_discrete u v));
         takes = (λ opened first was rows near.
             let h = was (λ u is. row_before old.part u (first u) (came u) (came_now u) (comes u (ℕ_discrete u v)) (row_now first rows u is)) (near_before first near) in
             let t = more.takes (first v) old (λ row reached. record { full = h.full v peer; others = (λ u s n. refl); none = h.none }) (rows v (peer_now v peer)) (near v (peer_now v peer)) in

@@ -7,7 +7,7 @@ use Rattle.wf_histories.specs.Agreement.{peers}
 use Rattle.wf_worlds.specs.Worlds.{gather}
 use Rattle.wf_server.specs.Servers.{Server}
 use Rattle.wf_server.specs.Inbox.{IsPeer}
-use Rattle.wf_actors.specs.Taking.{IsRow, IsFull}
+use Rattle.wf_actors.specs.Taking.{IsRow, IsFull, ComesMore}
 
 -- what came of each peer is in order, from the peer's first step on
 abbrev pub AreRows : PartData → (first : ℕ → ℕ) → (came : ℕ → List Update) → Type 0
@@ -33,6 +33,8 @@ abbrev pub WouldHaveTaken : {D : Type 0} → (reach : ℕ → ℕ → Type 0) �
 WouldHaveTaken reach opened first server came refused =
     AreRows server.part first came → ReachTo reach server.part first came (taken server.past) → HasTaken opened first server came refused
 
--- WHAT CAME BY NOW IS TAKEN IN, if what had come before was. So it is whatever the first steps were, and since whichever Turn.
+-- MORE CAME, behind what had come; and WHAT CAME BY NOW IS TAKEN IN, if what had come before was. So it is whatever the first steps were, and
+-- since whichever Turn.
 pub record TakesRows {D : Type 0} (reach : ℕ → ℕ → Type 0) (old new : Server D) (came came_now : ℕ → List Update) (refused refused_now : Bool) : Type 0 where
+  pub comes : (v : ℕ) → ComesMore (came v) (came_now v)
   pub takes : (opened : ℕ) (first : ℕ → ℕ) → WouldHaveTaken reach opened first old came refused → WouldHaveTaken reach opened first new came_now refused_now

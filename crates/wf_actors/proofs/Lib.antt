@@ -1,5 +1,5 @@
 mod Receiving
-mod Rows
+pub mod Rows
 mod Gathers
 mod Takings
 mod Beginnings
@@ -19,3 +19,4 @@ mod Turning
 mod Working
 pub mod Pairings
 pub mod Changing
+pub mod Agreeing

@@ -1,4 +1,4 @@
--- Of other calls. What a node holds of all its peers and took in of them, as their updates come in order.
+-- Of other calls. What a node holds and took in of all its peers, as their updates come in order.
 use Rattle.std.specs.Prelude.{◌≡◌, ℕ, suc, ◌+◌, ◌-◌, ◌<◌, ◌≤◌, Bool, false, List, length, Some, slice_get}
 use Rattle.wf_model.specs.declared.update.Update.{Update}
 use Rattle.wf_parts.specs.declared.data.PartData.{PartData}

@@ -1,10 +1,10 @@
 -- What a unit does as it answers, item by item.
-use Rattle.std.proofs.Common.{◌≡◌, ℕ, ◌+◌, ◌≤◌, Bool, false, List, Option, None, Result, Ok, Err, refl, sym, ap, ◌∙◌, subst, arith}
+use Rattle.std.proofs.Common.{◌≡◌, ℕ, ◌+◌, ◌≤◌, Bool, false, List, length, map, Option, None, Result, Ok, Err, refl, sym, ap, ◌∙◌, subst, arith}
 use Rattle.std.specs.Prelude.{◌==◌, if◌then◌else◌}
 use Rattle.wf_disk.specs.Disk.{Told}
 use Rattle.wf_model.specs.declared.outer.Outer.{Outer}
 use Rattle.wf_model.specs.declared.update.Update.{Update}
-use Rattle.wf_histories.specs.Histories.{taken}
+use Rattle.wf_histories.specs.Histories.{TurnDone, taken}
 use Rattle.wf_worlds.specs.Growing.{Fits}
 use Rattle.wf_exchange.specs.declared.port.Port.{Port}
 use Rattle.wf_server.specs.declared.fault.Admitted.{Admitted}
@@ -13,6 +13,7 @@ use Rattle.wf_server.specs.declared.fault.AdmitFault.{AdmitFault}
 use Rattle.wf_server.specs.Answers.{IsNew}
 use Rattle.wf_server.specs.Servers.{Server, told_by, held, held_in, admission, with_admission}
 use Rattle.wf_actors.specs.Keeping.{KeepsAll}
+use Rattle.wf_actors.specs.Taking.{Anywhere}
 use Rattle.wf_actors.specs.Sendings.{Sends}
 use Rattle.wf_actors.specs.Moves.{Moves, Admits}
 use Rattle.wf_actors.proofs.Moving.{keeps_then, plain_moves}
@@ -27,7 +28,7 @@ module _ {D : Type 0} (told : D → Told) where
         part = ap (λ (s : Server D). s.part) e;
         came = ap (λ (s : Server D). s.came) e;
         early = ap (λ (s : Server D). s.early) e;
-        steps = ap (λ (s : Server D). taken s.past) e;
+        turns = ap (λ (s : Server D). s.past.turns) e;
         keeps = keeps;
         faults = faults;
         sends = (λ port boxes. subst (λ (s : Server D). Sends old s port port boxes boxes) (sym e) (record { each = (λ v first peer le is. is) }));
@@ -40,7 +41,7 @@ module _ {D : Type 0} (told : D → Told) where
         part = ap (λ (s : Server D). s.part) e;
         came = ap (λ (s : Server D). s.came) e;
         early = ap (λ (s : Server D). s.early) e;
-        steps = ap (λ (s : Server D). taken s.past) e;
+        turns = ap (λ (s : Server D). s.past.turns) e;
         keeps = keeps;
         faults = faults;
         sends = (λ port boxes. sends_admitted old new port boxes (admission request outer) fits (ap (λ (s : Server D). s.part) e) (ap (λ (s : Server D). s.past) e));
@@ -53,6 +54,9 @@ module _ {D : Type 0} (told : D → Told) where
   admits_of old new request outer fits keeps faults (Ok (Again n)) fresh old_one = admits_none old new keeps faults (old_one (λ no. no))
   admits_of old new request outer fits keeps faults (Err fault) fresh old_one = admits_none old new keeps faults (old_one (λ no. no))
 
+  pub admits_steps : (old new : Server D) → Admits told old new → taken new.past ≡ taken old.past
+  admits_steps old new a = ap (λ (ts : List TurnDone). length (map (λ (turn : TurnDone). turn.sealed) ts)) a.turns
+
   pub admits_stay : (s : Server D) → Admits told s s
   admits_stay s = admits_none s s (record { each = (λ taken opening kept. kept) }) (omega arith) refl
 
@@ -62,15 +66,15 @@ module _ {D : Type 0} (told : D → Told) where
         part = q.part ∙ p.part;
         came = q.came ∙ p.came;
         early = q.early ∙ p.early;
-        steps = q.steps ∙ p.steps;
+        turns = q.turns ∙ p.turns;
         keeps = keeps_then told a b c p.keeps q.keeps;
         faults = let first = p.faults in let second = q.faults in omega arith;
-        sends = (λ port boxes. sends_then a b c port port port boxes boxes boxes p.part (let e = p.steps in omega (arith, e)) (p.sends port boxes) (q.sends port boxes));
+        sends = (λ port boxes. sends_then a b c port port port boxes boxes boxes p.part (let e = admits_steps a b p in omega (arith, e)) (p.sends port boxes) (q.sends port boxes));
       }
 
   held_same : (old new : Server D) → Admits told old new → (v s : ℕ) → held new v s ≡ held old v s
   held_same old new a v s =
-      ap (λ n. held_at n new.came new.early) a.steps
+      ap (λ n. held_at n new.came new.early) (admits_steps old new a)
       ∙ ap (λ l. held_at (taken old.past) l new.early) a.came
       ∙ ap (λ l. held_at (taken old.past) old.came l) a.early
     where
@@ -80,5 +84,5 @@ module _ {D : Type 0} (told : D → Told) where
   -- so nothing moves
   pub admits_moves : (old new : Server D) (port : Port) (refused : Bool) → Admits told old new → Moves told old new port port refused refused
   admits_moves old new port refused a =
-      plain_moves told old new port port refused a.part a.keeps a.faults (let e = a.steps in omega (arith, e)) refl (λ v. refl)
-      (λ came. rows_kept old new came refused a.part a.steps (held_same old new a))
+      plain_moves told old new port port refused a.part a.keeps a.faults (let e = admits_steps old new a in omega (arith, e)) refl (λ v. refl)
+      (λ came. rows_kept Anywhere old new came refused a.part a.turns (held_same old new a))

@@ -1,18 +1,22 @@
 mod Receiving
-mod Rows
+pub mod Rows
+mod Gathers
 mod Takings
 mod Beginnings
 mod Keepings
 mod Outcomes
-mod Peering
-mod Sends
-mod Moving
+pub mod Peering
+pub mod Sends
+pub mod Moving
 mod Short
-mod Answered
+pub mod Answered
 mod Full
 mod Said
-mod Admitting
+pub mod Admitting
 mod Stepped
 mod Going
 mod Turning
 mod Working
+pub mod Pairings
+pub mod Changing
+pub mod Agreeing

@@ -16,6 +16,7 @@ use Rattle.wf_server.specs.Servers.{Server, told_by}
 use Rattle.wf_actors.specs.declared.stop.Stop.{Stop}
 use Rattle.wf_actors.specs.declared.stop.Stop.TheVariants as stops
 use Rattle.wf_actors.specs.Keeping.{Keeps, KeepsAll}
+use Rattle.wf_actors.specs.Taking.{Anywhere}
 use Rattle.wf_actors.specs.Peers.{TakesRows}
 use Rattle.wf_actors.specs.Stops.{IsStopOf}
 use Rattle.wf_actors.specs.Moves.{Moves}
@@ -33,7 +34,7 @@ pub popped_same : (a b : Port) (v : ℕ) → SameMouths a b v → popped_from b 
 popped_same a b v same = ap (λ o. option_map_or popped o []) same
 
 -- from all units
-popped_all : (a b : Port) → ((v : ℕ) → SameMouths a b v) → popped_from b ≡ popped_from a
+pub popped_all : (a b : Port) → ((v : ℕ) → SameMouths a b v) → popped_from b ≡ popped_from a
 popped_all a b same = λ i v. popped_same a b v (same v) i
 
 module _ {D : Type 0} (told : D → Told) where
@@ -64,7 +65,7 @@ module _ {D : Type 0} (told : D → Told) where
 
     -- nothing came meanwhile
     pub plain_moves : (port port_now : Port) (refused : Bool) → new.part ≡ old.part → KeepsAll told old new → (told_by told old).faults ≤ (told_by told new).faults → taken old.past ≤ taken new.past
-        → ways port_now ≡ ways port → ((v : ℕ) → SameMouths port port_now v) → ((came : ℕ → List Update) → TakesRows old new came came refused refused) → Moves told old new port port_now refused refused
+        → ways port_now ≡ ways port → ((v : ℕ) → SameMouths port port_now v) → ((came : ℕ → List Update) → TakesRows Anywhere old new came came refused refused) → Moves told old new port port_now refused refused
     plain_moves port port_now refused part keeps faults on rings mouths rows =
         record {
           part = part;
@@ -72,11 +73,11 @@ module _ {D : Type 0} (told : D → Told) where
           faults = faults;
           on = on;
           rings = rings;
-          rows = subst (λ came. TakesRows old new (popped_from port) came refused refused) (sym (popped_all port port_now mouths)) (rows (popped_from port));
+          rows = subst (λ came. TakesRows Anywhere old new (popped_from port) came refused refused) (sym (popped_all port port_now mouths)) (rows (popped_from port));
         }
 
     -- what came was taken in
-    pub taking_moves : (port port_now : Port) (refused refused_now : Bool) → new ≡ record old { came = new.came; early = new.early } → ways port_now ≡ ways port → TakesRows old new (popped_from port) (popped_from port_now) refused refused_now → Moves told old new port port_now refused refused_now
+    pub taking_moves : (port port_now : Port) (refused refused_now : Bool) → new ≡ record old { came = new.came; early = new.early } → ways port_now ≡ ways port → TakesRows Anywhere old new (popped_from port) (popped_from port_now) refused refused_now → Moves told old new port port_now refused refused_now
     taking_moves port port_now refused refused_now rest rings rows =
         record {
           part = ap (λ (s : Server D). s.part) rest;
@@ -89,7 +90,7 @@ module _ {D : Type 0} (told : D → Told) where
 
   pub moves_stay : (s : Server D) (port : Port) (refused : Bool) → Moves told s s port port refused refused
   moves_stay s port refused =
-      record { part = refl; keeps = record { each = (λ taken opening kept. kept) }; faults = omega arith; on = omega arith; rings = refl; rows = rows_stay s (popped_from port) refused }
+      record { part = refl; keeps = record { each = (λ taken opening kept. kept) }; faults = omega arith; on = omega arith; rings = refl; rows = rows_stay Anywhere s (popped_from port) refused }
 
   pub moves_then : (a b c : Server D) (pa pb pc : Port) (ra rb rc : Bool) → Moves told a b pa pb ra rb → Moves told b c pb pc rb rc → Moves told a c pa pc ra rc
   moves_then a b c pa pb pc ra rb rc p q =
@@ -99,5 +100,5 @@ module _ {D : Type 0} (told : D → Told) where
         faults = let first = p.faults in let second = q.faults in omega arith;
         on = let first = p.on in let second = q.on in omega arith;
         rings = q.rings ∙ p.rings;
-        rows = rows_then a b c (popped_from pa) (popped_from pb) (popped_from pc) ra rb rc p.rows q.rows;
+        rows = rows_then Anywhere a b c (popped_from pa) (popped_from pb) (popped_from pc) ra rb rc p.rows q.rows;
       }

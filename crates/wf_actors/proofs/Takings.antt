@@ -2,12 +2,11 @@
 use Rattle.std.proofs.Common.{◌≡◌, ◌⊎◌, inl, inr, ⊎_elim, ℕ, zero, suc, ◌+◌, ◌-◌, ◌<◌, ◌≤◌, Bool, false, List, [], ◌∷◌, ◌++◌, length, Some, None, is_some, slice_get, refl, sym, ap, ◌∙◌, subst, arith}
 use native.Mathlib.Decide.{ℕ_discrete}
 use Rattle.wf_model.specs.declared.update.Update.{Update}
-use Rattle.wf_parts.specs.declared.data.PartData.{PartData}
 use Rattle.wf_histories.specs.Histories.{taken}
 use Rattle.wf_server.specs.Servers.{Server, held}
 use Rattle.wf_server.specs.Inbox.{IsPeer, IsUpdateOf}
 use Rattle.wf_actors.specs.Taking.{IsRow, IsFull, Receives, TakesOne, TakesMore, Anywhere, Nearby}
-use Rattle.wf_actors.proofs.Rows.{behind, before, longer, past_end, none_within, no_value}
+use Rattle.wf_actors.proofs.Rows.{behind, before, longer, past_end, none_within, no_value, comes_none, comes_then, row_before}
 
 le_or_lt : (a b : ℕ) → (a ≤ b) ⊎ (b < a)
 le_or_lt zero b = inl (omega arith)
@@ -17,20 +16,16 @@ le_or_lt (suc a) (suc b) = ⊎_elim (λ h. inl (omega arith)) (λ h. inr (omega 
 add_more : (a b : ℕ) → a + (b + 1) ≡ a + b + 1
 add_more a b = omega arith
 
--- the front of a row is one
-row_front : (part : PartData) (v first : ℕ) (came : List Update) (x : Update) → IsRow part v first (came ++ x ∷ []) → IsRow part v first came
-row_front part v first came x row k y at = row k y (before came x k (λ e. absurd (cc (sym at ∙ ap (slice_get came) e ∙ past_end came (length came) (omega arith)))) ∙ at)
-
 module _ {D : Type 0} where
   pub stays : (reach : ℕ → ℕ → Type 0) (v : ℕ) (old : Server D) (came : List Update) (refused : Bool) → TakesMore reach v old old came came refused refused
-  stays reach v old came refused = record { rest = refl; stays = (λ u s x at. at); front = (λ part first row. row); takes = (λ first base was. was) }
+  stays reach v old came refused = record { rest = refl; stays = (λ u s x at. at); comes = comes_none came came refl; takes = (λ first base was. was) }
 
   pub then_more : (reach : ℕ → ℕ → Type 0) (v : ℕ) (a b c : Server D) (ca cb cc' : List Update) (ra rb rc : Bool) → TakesMore reach v a b ca cb ra rb → TakesMore reach v b c cb cc' rb rc → TakesMore reach v a c ca cc' ra rc
   then_more reach v a b c ca cb cc' ra rb rc p q =
       record {
         rest = q.rest ∙ ap (λ (s : Server D). record s { came = c.came; early = c.early }) p.rest;
         stays = (λ u s x at. q.stays u s x (p.stays u s x at));
-        front = (λ part first row. p.front part first (q.front part first row));
+        comes = comes_then ca cb cc' p.comes q.comes;
         takes = (λ first base was. q.takes first base (p.takes first base was));
       }
 
@@ -86,14 +81,14 @@ module _ {D : Type 0} where
       record {
         rest = one.rest;
         stays = one.stays;
-        front = (λ part first row. row_front part v first came x (subst (λ l. IsRow part v first l) e row));
+        comes = (x ∷ [], e);
         takes = (λ first base was row reached.
             let part : new.part ≡ old.part = ap (λ (s : Server D). s.part) one.rest in
             let steps : taken new.past ≡ taken old.past = ap (λ (s : Server D). taken s.past) one.rest in
             let whole : IsRow old.part v first (came ++ x ∷ []) = subst (λ l. IsRow old.part v first l) e (subst (λ p. IsRow p v first came_now) part row) in
             let far : reach (first + length came + 1) (taken old.past) =
             subst (λ n. reach n (taken old.past)) (ap (λ n. first + n) (ap length e ∙ longer came x) ∙ add_more first (length came)) (subst (λ n. reach (first + length came_now) n) steps reached) in
-            let t = was (row_front old.part v first came x whole) (lower first far) in
+            let t = was (row_before old.part v first came (came ++ x ∷ []) (x ∷ [], refl) whole) (lower first far) in
             let is = whole (length came) x (behind came x) in
             let r = one.receives (subst (IsPeer old.part) (sym is.from) is.peer) is.fit in
             let g = one_more_full v first old new came x refused refused_now (near first far t.full) steps r t.full is in

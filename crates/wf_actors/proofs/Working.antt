@@ -18,7 +18,7 @@ use Rattle.wf_actors.specs.declared.outbox.Outbox.{Outbox}
 use Rattle.wf_actors.specs.declared.stop.Stop.{Stop}
 use Rattle.wf_actors.specs.declared.stop.Stop.TheVariants as stops
 use Rattle.wf_actors.specs.declared.unit.UnitActor.{UnitActor}
-use Rattle.wf_actors.specs.Taking.{KeepsHeld}
+use Rattle.wf_actors.specs.Taking.{Anywhere, KeepsHeld}
 use Rattle.wf_actors.specs.Peers.{TakesRows}
 use Rattle.wf_actors.specs.Sendings.{waiting_for, Sends, SendsSome}
 use Rattle.wf_actors.specs.Answering.{made_by, new_admissions, KeepsAnswered, KeepsAsked}
@@ -29,7 +29,7 @@ use Rattle.wf_actors.proofs.Answered.{answer_stays, answered_then, asked_then}
 use Rattle.wf_actors.proofs.Moving.{moves_then, taking_moves}
 use Rattle.wf_actors.proofs.Peering.{came_stays}
 use Rattle.wf_actors.proofs.Sends.{sends_same, sends_then, some_then, all_some}
-use Rattle.wf_actors.proofs.Admitting.{admits_moves}
+use Rattle.wf_actors.proofs.Admitting.{admits_moves, admits_steps}
 
 -- By when all is answered: it took no step, and sent nothing.
 pub record Begun {D : Type 0} (told : D → Told) (first answered : Server D) (port took : Port) (refused refused_now : Bool) : Type 0 where
@@ -41,14 +41,14 @@ pub record Begun {D : Type 0} (told : D → Told) (first answered : Server D) (p
 module _ {D : Type 0} (told : D → Told) where
   -- what came is taken in, and then all is answered
   pub begun : (first taking answered : Server D) (port took : Port) (refused refused_now : Bool) → taking ≡ record first { came = taking.came; early = taking.early } → ways took ≡ ways port
-      → ((v : ℕ) → SameEnds port took v) → KeepsHeld first taking → TakesRows first taking (popped_from port) (popped_from took) refused refused_now → Admits told taking answered
+      → ((v : ℕ) → SameEnds port took v) → KeepsHeld first taking → TakesRows Anywhere first taking (popped_from port) (popped_from took) refused refused_now → Admits told taking answered
       → Begun told first answered port took refused refused_now
   begun first taking answered port took refused refused_now rest rings ends stays rows admits =
       record {
         moves = moves_then told first taking answered port took took refused refused_now refused_now
             (taking_moves told first taking port took refused refused_now rest rings rows)
             (admits_moves told taking answered took refused_now admits);
-        steps = admits.steps ∙ ap taken past;
+        steps = admits_steps told taking answered admits ∙ ap taken past;
         sends = (λ boxes.
             sends_then first taking answered port took took boxes boxes boxes part (let e = ap taken past in omega (arith, e))
             (sends_same first taking port took boxes part past (λ v. ap (λ o. option_map_or pushed o [] ++ waiting_for boxes v) (ends v)))

@@ -7,3 +7,4 @@ pub mod Stops
 pub mod Answering
 pub mod Moves
 pub mod Rounds
+pub mod Pairs

@@ -1,5 +1,5 @@
 -- Of other calls. What a node holds of a peer whose updates come in order.
-use Rattle.std.specs.Prelude.{◌≡◌, ◌≢◌, ℕ, ◌+◌, ◌-◌, ◌<◌, ◌≤◌, Bool, false, List, length, Some, None, slice_get}
+use Rattle.std.specs.Prelude.{◌≡◌, ◌≢◌, ℕ, ◌+◌, ◌-◌, ◌<◌, ◌≤◌, Bool, false, List, ◌++◌, length, Some, None, slice_get}
 use Rattle.wf_model.specs.declared.update.Update.{Update}
 use Rattle.wf_parts.specs.declared.data.PartData.{PartData}
 use Rattle.wf_histories.specs.Histories.{taken}
@@ -50,11 +50,15 @@ abbrev pub WouldTakeIn : {D : Type 0} → (ℕ → ℕ → Type 0) → ℕ → �
 WouldTakeIn reach v first base server came refused =
     IsRow server.part v first came → reach (first + length came) (taken server.past) → TookIn v first base server came refused
 
+-- behind what had come, more came
+abbrev pub ComesMore : (came came_now : List Update) → Type 0
+ComesMore came came_now = (more : List Update) × (came_now ≡ came ++ more)
+
 -- MORE CAME of peer v. Whatever was the first step, and since when: if what had come was taken in, then all that has come by now is.
 pub record TakesMore {D : Type 0} (reach : ℕ → ℕ → Type 0) (v : ℕ) (old new : Server D) (came came_now : List Update) (refused refused_now : Bool) : Type 0 where
   pub rest : new ≡ record old { came = new.came; early = new.early }
   pub stays : KeepsHeld old new
-  pub front : (part : PartData) (first : ℕ) → IsRow part v first came_now → IsRow part v first came
+  pub comes : ComesMore came came_now
   pub takes : (first : ℕ) (base : Server D) → WouldTakeIn reach v first base old came refused → WouldTakeIn reach v first base new came_now refused_now
 
 -- no bound

@@ -1,6 +1,6 @@
 //! How a unit answers the lines of its clients and the completions of its workers.
 ghost use Rattle.std.specs.Prelude.{◌≡◌, ◌<◌, ◌≤◌, ℕ, false, Ok, Err, length, map, IfOk, IfErr, IsErr, OnOk};
-ghost use Rattle.wf_exchange.specs.Rings.{ring_out, popped};
+ghost use Rattle.wf_exchange.specs.Rings.{ring_in, ring_out, pushed, popped, free};
 ghost use Rattle.wf_server.specs.Servers.{told_by};
 ghost use Rattle.wf_actors.specs.Keeping.{KeepsAll};
 ghost use Rattle.wf_actors.specs.Stops.{IsStopOf};
@@ -11,7 +11,7 @@ use crate::desk::{Answer, Desk};
 use crate::keeping::admit;
 use crate::stop::Stop;
 use wf_disk::Disk;
-use wf_exchange::LineItem;
+use wf_exchange::{LineEnd, LineItem, settle_line};
 use wf_server::{AdmitFault, Admitted, Node};
 
 /// So many items are taken from a desk in a round, at most.
@@ -95,6 +95,29 @@ fn answer_desk<D: Disk>(node: &mut Node<D>, desk: &mut Desk) -> Result<(), Stop>
         if !answer_next(node, desk)? {
             break;
         }
+    }
+    Ok(())
+}
+
+/// Answers all that a client or a worker put in, by who holds both ends of its ring, item by item. After a stop it answers no more.
+pub fn settle_desk<D: Disk>(
+    node: &mut Node<D>,
+    desk: &mut Desk,
+    end: &mut LineEnd,
+) -> Result<(), Stop>
+    requires working { node.old.journal.failed ≡ false }
+    requires pair { ring_in end.old ≡ ring_out desk.old.mouth }
+    ensures admits { Admits D.told node.old node.new }
+    ensures ring { ring_out desk.new.mouth ≡ ring_out desk.old.mouth }
+    ensures end { (ring_in end.new ≡ ring_in end.old) × (pushed end.new ≡ pushed end.old) }
+    ensures all { OnOk result ((popped desk.new.mouth ≡ pushed end.new) × (0 < free end.new)) }
+    ensures said { OnOk result (AnswersMore node.old.past node.new.past (popped desk.old.mouth) (popped desk.new.mouth) desk.old.answers desk.new.answers) }
+    ensures some { AsksMore node.old.past node.new.past (popped desk.old.mouth) (popped desk.new.mouth) }
+    ensures stopped { IfErr result (IsStopOf D.told node.old node.new) }
+    ensures working { (result ≡ Err Stop.DiskFailed → ⊥) → node.new.journal.failed ≡ false }
+{
+    while let Some(item) = settle_line(&mut desk.mouth, end) {
+        answer_at(node, desk, &item)?;
     }
     Ok(())
 }

@@ -1,14 +1,12 @@
 //! How a unit takes its steps in a round.
-ghost use Rattle.std.specs.Prelude.{◌≡◌, ◌≢◌, ◌⊎◌, ◌+◌, ◌<◌, ◌≤◌, ℕ, Bool, true, false, Ok, Err, List, [], ◌∷◌, ◌++◌, length, IsTrue, IsFalse, IfErr, IfSome, OnOk, OnErr, IsErrOf};
-ghost use Rattle.wf_model.specs.declared.update.Update.{Update as AnUpdate};
+ghost use Rattle.std.specs.Prelude.{◌≡◌, ◌≢◌, ◌⊎◌, ◌+◌, ◌<◌, ◌≤◌, ℕ, Bool, true, false, Ok, Err, [], ◌∷◌, ◌++◌, length, IsTrue, IsFalse, IfErr, IfSome, OnOk, OnErr, IsErrOf};
 ghost use Rattle.wf_histories.specs.Histories.{taken};
-ghost use Rattle.wf_worlds.specs.Growing.{turned};
 ghost use Rattle.wf_exchange.specs.Ports.{ways, popped_from, CanReach, SameEnds, SameMouths};
-ghost use Rattle.wf_server.specs.Servers.{held, told_by};
-ghost use Rattle.wf_server.specs.Inbox.{AllCame, AreMissing, IsPeer};
+ghost use Rattle.wf_server.specs.Servers.{held, told_by, with_turn};
+ghost use Rattle.wf_server.specs.Inbox.{AllCame, AreMissing, IsInbox, IsPeer};
 ghost use Rattle.wf_server.specs.Sending.{sent_to};
 ghost use Rattle.wf_actors.specs.Keeping.{KeepsAll};
-ghost use Rattle.wf_actors.specs.Taking.{KeepsHeld};
+ghost use Rattle.wf_actors.specs.Taking.{Anywhere, KeepsHeld};
 ghost use Rattle.wf_actors.specs.Peers.{TakesRows};
 ghost use Rattle.wf_actors.specs.Sendings.{sent_on, Sends, SendsSome, SentUpTo, SentToSome};
 ghost use Rattle.wf_actors.specs.Stops.{IsStopOf, outcome_by};
@@ -36,7 +34,7 @@ fn take_in_of<D: Disk>(node: &mut Node<D>, port: &mut Port, refused: &mut bool, 
     ensures ends { (v : ℕ) → SameEnds port.old port.new v }
     ensures rest { node.new ≡ record node.old { came = node.new.came; early = node.new.early } }
     ensures stays { KeepsHeld node.old node.new }
-    ensures rows { TakesRows node.old node.new (popped_from port.old) (popped_from port.new) refused.old refused.new }
+    ensures rows { TakesRows Anywhere node.old node.new (popped_from port.old) (popped_from port.new) refused.old refused.new }
 {
     let own = node.part().data().unit;
     if unit == own.0 {
@@ -52,7 +50,7 @@ pub fn take_in_all<D: Disk>(node: &mut Node<D>, port: &mut Port, refused: &mut b
     ensures ends { (v : ℕ) → SameEnds port.old port.new v }
     ensures rest { node.new ≡ record node.old { came = node.new.came; early = node.new.early } }
     ensures stays { KeepsHeld node.old node.new }
-    ensures rows { TakesRows node.old node.new (popped_from port.old) (popped_from port.new) refused.old refused.new }
+    ensures rows { TakesRows Anywhere node.old node.new (popped_from port.old) (popped_from port.new) refused.old refused.new }
 {
     let units = node.part().data().units;
     for unit in 0..units {
@@ -95,13 +93,15 @@ fn step<D: Disk>(node: &mut Node<D>) -> Result<bool, Stop>
     ensures keeps { KeepsAll D.told node.old node.new }
     ensures faults { (told_by D.told node.old).faults ≤ (told_by D.told node.new).faults }
     ensures turns { TakesTurns node.old.past node.new.past }
-    ensures took { result ≡ Ok true → (inputs : List AnUpdate) × (node.new.past ≡ turned node.old.past inputs) }
+    ensures took { result ≡ Ok true → (node.new.past ≡ with_turn node.old.past node.old.came) × AllCame node.old.part node.old.came }
+    ensures inbox { IsInbox node.old.part (taken node.old.past + 1) node.old.came }
     ensures later { result ≡ Ok true → (v s : ℕ) → taken node.old.past + 1 < s → held node.new v s ≡ held node.old v s }
     ensures same { (result ≡ Ok true → ⊥) → node.new ≡ record node.old { journal = node.new.journal; ready = node.new.ready } }
     ensures waits { result ≡ Ok false → AllCame node.old.part node.old.came → ⊥ }
     ensures stopped { IfErr result (IsStopOf D.told node.old node.new) }
     ensures working { (result ≡ Err Stop.DiskFailed → ⊥) → node.new.journal.failed ≡ false }
 {
+    let _held = node.held(UnitId(0), 0);
     match turn(node) {
         Ok(_) => Ok(true),
         Err(fault) => untaken(node, fault),

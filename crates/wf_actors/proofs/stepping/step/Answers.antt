@@ -29,6 +29,7 @@ returns-in-Err g c =
       faults = e.cause.later;
       turns = turns_none old.past new.past (ap (λ (s : Server _). s.past) kept);
       took = (λ is. absurd (never_taken c.in-Err.fault (sym u.outcome ∙ is)));
+      inbox = c.held-held.ensures.came;
       later = (λ is. absurd (never_taken c.in-Err.fault (sym u.outcome ∙ is)));
       same = (λ is. kept);
       waits = (λ is all. u.waits is (subst (λ (s : Server _). AllCame s.part s.came) (sym kept) all));

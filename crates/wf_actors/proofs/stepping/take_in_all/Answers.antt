@@ -1,6 +1,7 @@
 use Rattle.std.proofs.Common.{ap, ◌∙◌, arith}
 use Rattle.wf_server.specs.Servers.{Server}
 use Rattle.wf_exchange.specs.Ports.{popped_from}
+use Rattle.wf_actors.specs.Taking.{Anywhere}
 use Rattle.wf_actors.proofs.Moving.{reach_stays}
 use Rattle.wf_actors.proofs.Peering.{rows_then}
 use Rattle.wf_actors.proofs.stepping.take_in_all.Goals as goal
@@ -33,5 +34,5 @@ loop-unit-preserved g c =
       ends = (λ v. e.ends v ∙ i.ends v);
       rest = e.rest ∙ ap (λ (s : Server _). record s { came = now.came; early = now.early }) i.rest;
       stays = (λ v s x at. e.stays v s x (i.stays v s x at));
-      rows = rows_then first before now (popped_from c.args.port.now) (popped_from c.loop-unit.port) (popped_from c.take_in_of.new.port) c.args.refused.now c.loop-unit.refused c.take_in_of.new.refused i.rows e.rows;
+      rows = rows_then Anywhere first before now (popped_from c.args.port.now) (popped_from c.loop-unit.port) (popped_from c.take_in_of.new.port) c.args.refused.now c.loop-unit.refused c.take_in_of.new.refused i.rows e.rows;
     }

@@ -1,6 +1,7 @@
 pub mod Parts
 pub mod Fits
 pub mod Plays
+pub mod Summaries
 pub mod Unarmed
 pub mod Dues
 pub mod Trails

@@ -1,7 +1,7 @@
 //! Laws of answers.
 ghost use Rattle.wf_top.specs.Laws.{HaveOneAnswer, UnarmedPlaysHaveOneAnswer, EndsShowOutcomes};
 
-/// The answer of a command other than `play` depends on its input alone.
+/// The answer of a command that runs no play depends on its input alone.
 pub fn have_one_answer()
     ensures { HaveOneAnswer }
 {}

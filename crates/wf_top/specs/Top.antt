@@ -69,8 +69,8 @@ IsDue words before after status.ChartRefused text = IsAnswer words before after 
 IsDue words before after status.ScriptRefused text = IsAnswer words before after (answer status.ScriptRefused text)
 IsDue words before after status.Limit text =
     IsAnswer words before after (answer status.Limit text) ⊎ (Answers words before after (answer status.Limit text) × (text ≡ refusal (codes "limit input")))
-IsDue words before after status.DiskFault text = IsAnswer words before after (answer status.DiskFault text)
-IsDue words before after status.Journals text = IsAnswer words before after (answer status.Journals text)
+IsDue words before after status.DiskFault text = Answers words before after (answer status.DiskFault text) × IsAtEnd after.left
+IsDue words before after status.Journals text = Answers words before after (answer status.Journals text) × IsAtEnd after.left
 IsDue words before after status.Words text =
     (task_of words ≡ None) × (gen_number words ≡ None) × (bulk_number words ≡ None) × IsUnread before after × (text ≡ refusal (codes "words"))
 IsDue words before after status.ReadFault text = IsUnreadable words before after × (text ≡ refusal (codes "read"))

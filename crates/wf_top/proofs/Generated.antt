@@ -1,5 +1,5 @@
 -- The script that is generated arms no disk, so the summary of its play is one, whatever outcomes are named.
-use Rattle.std.proofs.Common.{◌≡◌, ◌∙◌, ℕ, zero, suc, ◌+◌, ◌-◌, ◌/◌, ◌%◌, ◌<◌, ◌==◌, ◌&&◌, not, nat_lt, nat_le, Bool, true, false, if◌then◌else◌, List, [], ◌∷◌, ◌++◌, take, drop, length, Option, Some, None, Result, Ok, Err, option_map, refl, sym, ap, ap₂, subst, arith, append_assoc, true≢false}
+use Rattle.std.proofs.Common.{◌≡◌, ◌∙◌, ℕ, zero, suc, ◌+◌, ◌-◌, ◌/◌, ◌%◌, ◌==◌, ◌&&◌, not, nat_lt, nat_le, Bool, true, false, if◌then◌else◌, List, [], ◌∷◌, ◌++◌, take, drop, length, Option, Some, None, Result, Ok, Err, option_map, refl, sym, ap, ap₂, subst, arith, append_assoc, true≢false}
 use Rattle.std.specs.List.{list_any}
 use Rattle.std.specs.Str.{bytes_eq}
 use Rattle.std.specs.Fmt.{digit_glyph, digits_onto, digits, decimal}
@@ -75,19 +75,16 @@ glyph_is n =
     let other : (48 + n % 10 == 114) ≡ false = grind (arith, nat_tests) in
     ap (λ (b : Bool). (if b then 48 + n % 10 else 87 + n % 10) == 114) small ∙ other
 
+either_lacks : (test : Bool) (xs ys rest : List ℕ) → Lacks (xs ++ rest) → Lacks (ys ++ rest) → Lacks ((if test then xs else ys) ++ rest)
+either_lacks true xs ys rest first second = first
+either_lacks false xs ys rest first second = second
+
 digits_lack : (k n : ℕ) (acc rest : List ℕ) → Lacks (acc ++ rest) → Lacks (digits_onto k 10 false n acc ++ rest)
 digits_lack zero n acc rest h = h
-digits_lack (suc k) n acc rest h = go (n / 10 == 0)
-  where
-    more : List ℕ
-    more = digit_glyph false (n % 10) ∷ acc
-
-    more_lacks : Lacks (more ++ rest)
-    more_lacks = byte_lacks (digit_glyph false (n % 10)) (acc ++ rest) (glyph_is n) h
-
-    go : (last : Bool) → Lacks ((if last then more else digits_onto k 10 false (n / 10) more) ++ rest)
-    go true = more_lacks
-    go false = digits_lack k (n / 10) more rest more_lacks
+digits_lack (suc k) n acc rest h =
+    let more : List ℕ = digit_glyph false (n % 10) ∷ acc in
+    let here : Lacks (more ++ rest) = byte_lacks (digit_glyph false (n % 10)) (acc ++ rest) (glyph_is n) h in
+    either_lacks (n / 10 == 0) more (digits_onto k 10 false (n / 10) more) rest here (digits_lack k (n / 10) more rest here)
 
 number_lacks : (n : ℕ) (rest : List ℕ) → Lacks rest → Lacks (decimal n ++ rest)
 unfolding digits
@@ -107,34 +104,30 @@ event_lacks : (rest : List ℕ) → Lacks rest → Lacks (codes " event e" ++ re
 event_lacks rest h true = h false
 event_lacks rest h false = h false
 
-end_lacks : (rest : List ℕ) → Lacks rest → Lacks (codes "\n" ++ (codes "round\n" ++ rest))
-end_lacks rest h true = h false
-end_lacks rest h false = h false
+end_lacks : (rest : List ℕ) → lacks_ar rest false ≡ true → Lacks (codes "\n" ++ (codes "round\n" ++ rest))
+end_lacks rest h true = h
+end_lacks rest h false = h
 
 regroup : (a u b q c v d e rest : List ℕ) → a ++ u ++ b ++ q ++ c ++ v ++ d ++ e ++ rest ≡ a ++ (u ++ (b ++ (q ++ (c ++ (v ++ (d ++ (e ++ rest)))))))
 regroup a u b q c v d e rest = simp append_assoc
 
-piece_lacks : (x q : ℕ) (rest : List ℕ) → Lacks rest → Lacks (made.admit_and_round x q ++ rest)
+piece_lacks : (x q : ℕ) (rest : List ℕ) → lacks_ar rest false ≡ true → Lacks (made.admit_and_round x q ++ rest)
 piece_lacks x q rest h =
     let d : ℕ = draw x q 3 in
     let end : List ℕ = codes "\n" ++ (codes "round\n" ++ rest) in
     subst Lacks (sym (regroup (codes "admit u") (decimal d) (codes " ") (decimal q) (codes " event e") (decimal d) (codes "\n") (codes "round\n") rest))
     (admit_lacks _ (number_lacks d _ (blank_lacks _ (number_lacks q _ (event_lacks _ (number_lacks d end (end_lacks rest h)))))))
 
-admissions_lack : (x q : ℕ) (rest : List ℕ) → Lacks rest → Lacks (made.admissions x q ++ rest)
+admissions_lack : (x q : ℕ) (rest : List ℕ) → lacks_ar rest false ≡ true → lacks_ar (made.admissions x q ++ rest) false ≡ true
 unfolding made.admissions
 admissions_lack x zero rest h = h
 admissions_lack x (suc q) rest h =
-    subst Lacks (sym (append_assoc (made.admissions x q) (made.admit_and_round x (suc q)) rest))
-    (admissions_lack x q (made.admit_and_round x (suc q) ++ rest) (piece_lacks x (suc q) rest h))
-
-rounds_lack : Lacks (codes "round\nround\nround\nround\n")
-rounds_lack true = refl
-rounds_lack false = refl
+    ap (λ (text : List ℕ). lacks_ar text false) (append_assoc (made.admissions x q) (made.admit_and_round x (suc q)) rest)
+    ∙ admissions_lack x q (made.admit_and_round x (suc q) ++ rest) (piece_lacks x (suc q) rest h false)
 
 script_lacks : (x : ℕ) → lacks_ar (made.gen_script x) false ≡ true
 unfolding made.gen_script
-script_lacks x = admissions_lack x 1000 (codes "round\nround\nround\nround\n") rounds_lack false
+script_lacks x = admissions_lack x 1000 (codes "round\nround\nround\nround\n") refl
 
 -- LINES AND WORDS
 

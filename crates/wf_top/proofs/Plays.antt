@@ -3,7 +3,7 @@ use Rattle.std.proofs.Common.{◌≡◌, ◌≤◌, ◌<◌, ◌∙◌, ◌||◌
 use Rattle.std.proofs.lemmas.Bool.Decides.{nat_tests}
 use Rattle.std.proofs.lemmas.List.{at_drop_more}
 use lib.Chars.{codes}
-use Rattle.wf_model.specs.Limits.{max_lines, max_report}
+use Rattle.wf_model.specs.Limits.{max_lines}
 use Rattle.wf_model.specs.declared.chart.Chart.{Chart}
 use Rattle.wf_model.specs.declared.status.Status.TheVariants as status
 use Rattle.wf_refusals.specs.Lines.{refusal}
@@ -13,7 +13,7 @@ use Rattle.wf_scripts.specs.Lines.{lines_of}
 use Rattle.wf_play.specs.Script.{play_of}
 use Rattle.wf_audit.specs.declared.central.RunFault.{RunFault}
 use Rattle.wf_audit.specs.declared.central.RunFault.TheVariants as faults
-use Rattle.wf_audit.specs.CentralText.{Adds, GivesText}
+use Rattle.wf_audit.specs.CentralText.{GivesText}
 use Rattle.wf_machine.specs.declared.ending.Ending.{Ending}
 use Rattle.wf_machine.specs.declared.line.Line.{Line}
 use Rattle.wf_machine.specs.declared.reply.Reply.{Reply}

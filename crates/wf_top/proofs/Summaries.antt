@@ -10,7 +10,7 @@ use Rattle.wf_model.specs.Ids.{trans_id}
 use Rattle.wf_model.specs.declared.ids.TransId.{TransId}
 use Rattle.wf_model.specs.declared.chart.Chart.{Chart}
 use Rattle.wf_model.specs.declared.outer.Entry.{Entry}
-use Rattle.wf_semantics.specs.Run.{CentralState, first_state, next_state, fired_in}
+use Rattle.wf_semantics.specs.Run.{CentralState, next_state, fired_in}
 use Rattle.wf_runs.specs.Runs.{IsRun, IsRunFrom}
 use Rattle.wf_central.specs.Kept.{notes_of}
 use Rattle.wf_machine.specs.declared.admission.Admission as of

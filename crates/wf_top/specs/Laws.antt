@@ -1,5 +1,5 @@
 -- Of the laws. Which answers depend on how doubts turn out.
-use Rattle.std.specs.Prelude.{◌≡◌, ◌≢◌, ℕ, Bool, true, false, List}
+use Rattle.std.specs.Prelude.{◌≡◌, ℕ, Bool, true, false, List}
 use Rattle.std.specs.List.{list_any}
 use Rattle.wf_model.specs.declared.chart.Chart.{Chart}
 use Rattle.wf_machine.specs.declared.line.Line.{Line}

@@ -1,5 +1,5 @@
 -- Inner. The entries that stand at places of the merged list.
-use Rattle.std.specs.Prelude.{ℕ, ◌-◌, List, Option, slice_get, option_map}
+use Rattle.std.specs.Prelude.{◌-◌, List, Option, slice_get, option_map}
 use Rattle.std.specs.Option.{option_to_list}
 use Rattle.wf_model.specs.declared.outer.Entry.{Entry}
 use Rattle.wf_machine.specs.declared.admission.Place.{Place}

@@ -13,8 +13,8 @@ use Rattle.wf_top.proofs.Plays.{if_ok}
 use Rattle.wf_top.proofs.Dues.{command_status, short_answer, long_answer}
 use Rattle.wf_top.proofs.bulk.bulk.Goals as goal
 
-pub returns-in_ok-line-clause-answer : goal.returns-in_ok-line-clause-answer
-returns-in_ok-line-clause-answer c =
+pub returns-then-len-gt-MAX_INPUT-clause-answer : goal.returns-then-len-gt-MAX_INPUT-clause-answer
+returns-then-len-gt-MAX_INPUT-clause-answer c =
     let command : Command = Play (Summary c.args.number) in
     let input : c.in_ok-input.input ≡ gen_text c.args.number = search rules in
     let long : max_input < length (gen_text c.args.number) = omega (arith, c.if-len-gt-MAX_INPUT.true, c.len.ensures, ap length input) in

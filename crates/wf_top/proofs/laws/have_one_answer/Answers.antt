@@ -1,4 +1,4 @@
-use Rattle.std.proofs.Common.{◌≡◌, ℕ, false, true≢false, nat_le, length, List, Result, Ok, Err, refl, ap}
+use Rattle.std.proofs.Common.{◌≡◌, ℕ, false, true≢false, List, Result, Ok, Err, refl}
 use Rattle.wf_model.specs.declared.chart.Chart.{Chart}
 use Rattle.wf_scripts.specs.Lines.{chart_part, script_part}
 use Rattle.wf_machine.specs.Runs.{Outcomes}

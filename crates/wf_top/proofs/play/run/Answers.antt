@@ -41,8 +41,7 @@ pub returns-in-Err-Servers-SentLimit : goal.returns-in-Err-Servers-SentLimit
 returns-in-Err-Servers-SentLimit c =
     let start : state_of c.in_ok-world.world ≡ first_state c.args.checked = search rules in
     let text : c.in_ok-from_slice-in-Err-Servers-SentLimit.field-0 ≡ refusal (codes "limit sent") = search rules in
-    let is : c.in-Err-Servers-SentLimit.field-0 ≡ drives.Servers stops.SentLimit =
-    c.in-Err-Servers-SentLimit.field-0-is ∙ ap (λ (f : ActFault). drives.Servers f) c.in-Err-Servers-SentLimit.field-0-0-is in
+    let is : c.in-Err-Servers-SentLimit.field-0 ≡ drives.Servers stops.SentLimit = search rules in
     let fault = subst (λ (f : DriveFault ActFault). MayStop {R = Reply} Acts states.MayRefuse MayBreak (state_of c.in_ok-world.world) c.args.lines.now f) is
     c.in-Err-Servers-SentLimit.ensures.fault in
     let stop = subst (λ (s : WorldState). MayRefuse {R = Reply} Acts states.MayRefuse MayBreak s c.args.lines.now stops.SentLimit) start fault in

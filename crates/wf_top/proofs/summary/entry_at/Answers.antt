@@ -1,4 +1,4 @@
-use Rattle.std.proofs.Common.{◌≡◌, ◌∙◌, sym, ap}
+use Rattle.std.proofs.Common.{◌≡◌, ◌∙◌, None, ap, rules}
 use Rattle.wf_histories.specs.Histories.{History}
 use Rattle.wf_world.specs.Fleets.{units_of}
 use Rattle.wf_world.specs.Sounds.{hist_of}
@@ -15,4 +15,4 @@ returns-in-Some c =
     if_ok c.entry_numbered.result (λ entry is. is ∙ entry_is world c.args.place xs past) c.entry_numbered.ensures
 
 pub returns-in-None : goal.returns-in-None
-returns-in-None c = no_entry c.args.world.now c.args.place (c.history.ensures.none.0 (sym c.in-None.is))
+returns-in-None c = let none : c.history.result ≡ None = search rules in no_entry c.args.world.now c.args.place (c.history.ensures.none.0 none)

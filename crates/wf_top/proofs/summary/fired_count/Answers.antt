@@ -1,9 +1,8 @@
-use Rattle.std.proofs.Common.{◌≡◌, ◌∙◌, ◌+◌, List, length, drop, ap, sym, subst, get_or, arith, rules}
+use Rattle.std.proofs.Common.{◌≡◌, ◌∙◌, ◌+◌, List, length, drop, ap, sym, subst, arith, rules}
 use Rattle.std.proofs.lemmas.List.{get_or_default}
 use Rattle.wf_model.specs.declared.ids.TransId.{TransId}
-use Rattle.wf_model.specs.declared.outer.Entry.{Entry}
 use Rattle.wf_model.specs.declared.step_notes.StepNotes.{StepNotes}
-use Rattle.wf_semantics.specs.Run.{CentralState, first_state, next_state}
+use Rattle.wf_semantics.specs.Run.{CentralState, first_state}
 use Rattle.wf_runs.specs.Runs.{IsRunFrom}
 use Rattle.wf_central.specs.Kept.{central_of}
 use Rattle.wf_central.proofs.Standings.{none_taken}
@@ -16,7 +15,7 @@ loop-entries-init c =
     let chart = c.args.checked.now in
     let first = c.in_ok-state.ensures.state in
     record {
-      count = ap (λ (s : CentralState). length (fired_along chart s c.args.steps.now)) first;
+      count = (let none : length c.new-fired.result ≡ 0 = search rules in omega (arith, none, ap (λ (s : CentralState). length (fired_along chart s c.args.steps.now)) first));
       run = subst (λ (s : CentralState). IsRunFrom chart s c.args.steps.now) (sym first) c.requires.run;
       of = c.in_ok-state.ensures.of;
       taken = none_taken chart c.in_ok-state.state first;

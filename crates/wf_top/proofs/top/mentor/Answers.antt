@@ -1,4 +1,4 @@
-use Rattle.std.proofs.Common.{◌≡◌, ℕ, List, ◌<◌, length, IfSome, Some, None, refl, subst, inl, inr, rules}
+use Rattle.std.proofs.Common.{◌≡◌, ℕ, List, ◌<◌, length, IfSome, Some, None, refl, subst, inr, rules}
 use Rattle.std.specs.Io.KnownBytes.{Consumes, IsAtEnd}
 use lib.Chars.{codes}
 use Rattle.wf_model.specs.Limits.{max_input}

@@ -3,8 +3,9 @@
 // first to mind, and it does the work that a server does: it works out its view and its updates from its part alone, it
 // sends updates as bytes, and it keeps a journal on a disk in memory that can fail and stop.
 //
-// Usage: play <INPUT   (a chart's text, a line `---`, and a script)
-// docs/RULES.md says what servers do, and docs/FORMATS.md how charts, scripts, replies, updates and journals are written.
+// Usage: play <INPUT   (a chart's text, a line `---`, and a script), or play bulk N, which does as `mentor bulk N`
+// docs/RULES.md says what servers do, and docs/FORMATS.md how charts, scripts, replies, updates and journals are written, and
+// which input is generated from a number.
 #include <algorithm>
 #include <cctype>
 #include <cstdint>
@@ -956,6 +957,9 @@ class Server {
 
   size_t admitted() const { return admissions.size(); }
 
+  // How many of its own transitions fired in the steps that it has taken.
+  size_t fired() const { return total_fired; }
+
   string admit(uint64_t request, const Outer& outer) {
     if (health != Health::Works) return barred();
     if (auto found = numbers.find(request); found != numbers.end())
@@ -1056,7 +1060,7 @@ class Server {
   vector<Admission> admissions;
   std::unordered_map<uint64_t, size_t> numbers;  // of the admissions, by their requests
   vector<uint32_t> sealed;
-  size_t total_sealed = 0;
+  size_t total_sealed = 0, total_fired = 0;
   vector<Item> items;
   View view;
   Update last, next;
@@ -1079,7 +1083,7 @@ class Server {
     admissions.clear();
     numbers.clear();
     sealed.clear();
-    total_sealed = 0;
+    total_sealed = total_fired = 0;
     items.clear();
     view = first;
     last = Update();
@@ -1154,6 +1158,7 @@ class Server {
     for (size_t n = total_sealed; n < total_sealed + seals; n++) outers.push_back(admissions[n].outer);
     sealed.push_back(seals);
     total_sealed += seals;
+    total_fired += next.fired.size();
     last = std::move(next);
     next = own_update(chart, parts[unit], view, (uint32_t)sealed.size() + 1, std::move(outers));
     came = std::move(early);
@@ -1206,6 +1211,13 @@ class Play {
     return text + merged();
   }
 
+  string summary() const {
+    size_t admitted = 0, fired = 0;
+    for (const Server& server : servers) admitted += server.admitted(), fired += server.fired();
+    return "steps " + std::to_string(least_taken()) + " admitted " + std::to_string(admitted) + " fired " +
+           std::to_string(fired);
+  }
+
  private:
   const Chart& chart;
   vector<Part> parts;
@@ -1246,10 +1258,15 @@ class Play {
     return text;
   }
 
-  // Which admissions are in which step.
-  string merged() const {
+  size_t least_taken() const {
     size_t least = servers[0].seals().size();
     for (const Server& server : servers) least = std::min(least, server.seals().size());
+    return least;
+  }
+
+  // Which admissions are in which step.
+  string merged() const {
+    size_t least = least_taken();
     string text;
     vector<size_t> before(servers.size());
     for (size_t step = 3; step <= least + 2; step++) {
@@ -1260,6 +1277,51 @@ class Play {
       if (!places.empty()) text += "step " + std::to_string(step) + places + "\n";
     }
     return text;
+  }
+};
+
+// ---- generated input
+
+class Generator {
+ public:
+  explicit Generator(uint32_t number) : x(number) {}
+
+  string input() {
+    string text = "chart bulk; unit u0; unit u1; unit u2; event e0 at u0; event e1 at u1; event e2 at u2; event i;\n"
+                  "var x : int = 0; var y : int = 1;\nor R at u0 { and A at u0 {\n";
+    for (int r = 0; r < 6; r++) text += group(std::to_string(r), " at u" + std::to_string(r % 3));
+    text += "} }\n";
+    for (int t = 0; t < 30; t++) text += transition("G" + std::to_string(t / 5) + "S");
+    text += "---\n";
+    for (int q = 1; q <= 1000; q++) text += admission(std::to_string(draw(3)), std::to_string(q));
+    return text + "round\nround\nround\nround\n";
+  }
+
+ private:
+  uint64_t x;
+
+  uint64_t draw(uint64_t below) {
+    x = x * 6364136223846793005u + 1442695040888963407u;
+    return (x >> 33) % below;
+  }
+
+  static string group(const string& r, const string& unit) {
+    string text = "or G" + r + unit + " {";
+    for (int j = 0; j < 4; j++) text += " basic G" + r + "S" + std::to_string(j) + unit + ";";
+    return text + " }\n";
+  }
+
+  string transition(const string& basic) {
+    static const char* const events[]{"e0", "e1", "e2", "i"};
+    static const char* const actions[]{" do x := x + 1", " do y := x - y", " do raise i", ""};
+    string text = "from " + basic + std::to_string(draw(4));
+    text += " to " + basic + std::to_string(draw(4));
+    text += string(" on ") + events[draw(4)];
+    return text + actions[draw(4)] + ";\n";
+  }
+
+  static string admission(const string& unit, const string& request) {
+    return "admit u" + unit + " " + request + " event e" + unit + "\nround\n";
   }
 };
 
@@ -1288,9 +1350,11 @@ int refuse(const char* what) {
   return 8;
 }
 
-int main() {
+int main(int count, char** words) {
   constexpr size_t most = 268435456;
-  string input = "\n" + all_input();
+  bool is_bulk = count == 3 && string_view(words[1]) == "bulk";
+  uint32_t number = is_bulk ? (uint32_t)strtoul(words[2], nullptr, 10) : 0;
+  string input = "\n" + (is_bulk ? Generator(number).input() : all_input());
   size_t divider = std::min(input.find("\n---\n"), input.size());
   Chart chart;
   Reader(chart, string_view(input).substr(0, divider)).read_chart();
@@ -1301,7 +1365,10 @@ int main() {
     text += std::to_string(line.number) + ": " + play.reply(line) + "\n";
     if (play.sent() > most) return refuse("sent");
   }
-  text += play.ending();
+  if (is_bulk)
+    text = "bulk " + std::to_string(number) + " " + play.summary() + "\n";
+  else
+    text += play.ending();
   if (text.size() > most) return refuse("report");
   return fwrite(text.data(), 1, text.size(), stdout) == text.size() ? 0 : 5;
 }

@@ -1,4 +1,4 @@
 mod Moves
 mod Divided
 mod Short
-mod Read
+pub mod Read

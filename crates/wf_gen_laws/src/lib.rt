@@ -4,7 +4,7 @@
 //!   charts, and means the generated chart; behind it stands the generated script. Each public
 //!   function is a law and has nothing to do.
 //! - Doesn't say: that each line of that script is in the grammar of plays.
-//! - A caller: none; the laws speak of `wf_gen::gen_text`.
+//! - A caller: none; the laws speak of `wf_gen::gen_text`, and a law of `wf_top` rests on them.
 //! - A change of what is generated begins in `wf_gen`.
 #![tactic(auto)]
 

@@ -26,15 +26,17 @@ use Rattle.wf_play.specs.Script.{play_of}
 use Rattle.wf_world.specs.Sent.{passes}
 use Rattle.wf_top.specs.declared.command.Command.{Command}
 use Rattle.wf_top.specs.declared.command.Command.TheVariants.{Check, Central, Split, Play}
+use Rattle.wf_top.specs.declared.command.Telling.{Telling}
+use Rattle.wf_top.specs.declared.command.Telling.TheVariants.{Whole, Summary}
 use Rattle.wf_top.specs.declared.answer.Answer.{Answer}
-use Rattle.wf_top.specs.Answers.{answer, answer_of, answer_within, chart_answer, central_answer, lines_answer, play_answer, play_lines_answer, run_of_play, run_answer, chart_in, MayGive}
+use Rattle.wf_top.specs.Answers.{answer, answer_of, answer_within, chart_answer, central_answer, lines_answer, play_answer, play_lines_answer, told_of_play, run_of_play, run_answer, chart_in, MayGive}
 use Rattle.wf_top.specs.Plays.{play_text}
 use Rattle.wf_disk.specs.Shelf.{ShelfTold}
 use Rattle.wf_top.specs.declared.command.Task.{Task}
 use Rattle.wf_top.specs.declared.command.Task.TheVariants as task
 use Rattle.wf_top.specs.Trails.{MayTrailWithin, MayTrail}
 use Rattle.wf_top.specs.Tasks.{HasStatus, MayCome}
-use Rattle.wf_top.specs.Top.{Ends, Answers, IsDue, MayAnswer}
+use Rattle.wf_top.specs.Top.{Ends, Answers, IsSummed, IsDue, MayAnswer}
 use Rattle.wf_top.proofs.Fits.{play_named}
 use Rattle.wf_top.proofs.Plays.{no_outcomes}
 
@@ -91,23 +93,27 @@ central_answered chart script =
     either_answered (nat_le (length (lines_of script)) max_lines) (lines_answer chart (script_of chart script)) (answer status.Limit too_many_lines)
     (lines_answered chart (script_of chart script) (script_named chart script)) tt
 
-play_run_answered : (chart : Chart) (outcomes : Outcomes) (lines : List (ℕ × Line)) → IsAnswered (run_of_play chart outcomes lines).status
+told_answered : (telling : Telling) (chart : Chart) (outcomes : Outcomes) (lines : List (ℕ × Line)) → IsAnswered (told_of_play telling chart outcomes lines).status
+told_answered Whole chart outcomes lines = run_answered (play_text chart lines outcomes)
+told_answered (Summary n) chart outcomes lines = tt
+
+play_run_answered : (telling : Telling) (chart : Chart) (outcomes : Outcomes) (lines : List (ℕ × Line)) → IsAnswered (run_of_play telling chart outcomes lines).status
 unfolding run_of_play
-play_run_answered chart outcomes lines =
-    either_answered (passes chart (first_machine chart) outcomes.at_lines lines) (answer status.Limit (refusal (codes "limit sent"))) (run_answer (play_text chart lines outcomes))
-    tt (run_answered (play_text chart lines outcomes))
+play_run_answered telling chart outcomes lines =
+    either_answered (passes chart (first_machine chart) outcomes.at_lines lines) (answer status.Limit (refusal (codes "limit sent"))) (told_of_play telling chart outcomes lines)
+    tt (told_answered telling chart outcomes lines)
 
-play_lines_answered : (chart : Chart) (outcomes : Outcomes) (found : Result (List (ℕ × Line)) ScriptFault) → IsNamed found
-    → IsAnswered (play_lines_answer chart outcomes found).status
-play_lines_answered chart outcomes (Ok lines) named = play_run_answered chart outcomes lines
-play_lines_answered chart outcomes (Err (script.Refused line)) named = tt
-play_lines_answered chart outcomes (Err script.NoMemory) named = absurd named
+play_lines_answered : (telling : Telling) (chart : Chart) (outcomes : Outcomes) (found : Result (List (ℕ × Line)) ScriptFault) → IsNamed found
+    → IsAnswered (play_lines_answer telling chart outcomes found).status
+play_lines_answered telling chart outcomes (Ok lines) named = play_run_answered telling chart outcomes lines
+play_lines_answered telling chart outcomes (Err (script.Refused line)) named = tt
+play_lines_answered telling chart outcomes (Err script.NoMemory) named = absurd named
 
-play_answered : (chart : Chart) (outcomes : Outcomes) (script : List ℕ) → IsAnswered (play_answer chart outcomes script).status
+play_answered : (telling : Telling) (chart : Chart) (outcomes : Outcomes) (script : List ℕ) → IsAnswered (play_answer telling chart outcomes script).status
 unfolding play_answer
-play_answered chart outcomes script =
-    either_answered (nat_le (length (lines_of script)) max_lines) (play_lines_answer chart outcomes (play_of chart script)) (answer status.Limit too_many_lines)
-    (play_lines_answered chart outcomes (play_of chart script) (play_named chart script)) tt
+play_answered telling chart outcomes script =
+    either_answered (nat_le (length (lines_of script)) max_lines) (play_lines_answer telling chart outcomes (play_of chart script)) (answer status.Limit too_many_lines)
+    (play_lines_answered telling chart outcomes (play_of chart script) (play_named chart script)) tt
 
 chart_answered : (command : Command) (outcomes : Outcomes) (script : List ℕ) (found : Result Chart (List ℕ))
     → IsAnswered (chart_answer command outcomes script found).status
@@ -115,7 +121,7 @@ chart_answered command outcomes script (Err line) = tt
 chart_answered Check outcomes script (Ok chart) = tt
 chart_answered Central outcomes script (Ok chart) = central_answered chart script
 chart_answered Split outcomes script (Ok chart) = run_answered (split_text chart)
-chart_answered Play outcomes script (Ok chart) = play_answered chart outcomes script
+chart_answered (Play telling) outcomes script (Ok chart) = play_answered telling chart outcomes script
 
 within_answered : (command : Command) (outcomes : Outcomes) (input : List ℕ) → IsAnswered (answer_within command outcomes input).status
 unfolding answer_within
@@ -143,17 +149,32 @@ command_status command outcomes input faults a is =
 -- what comes of a task is due
 pub due_answer : (words : List (List ℕ)) (before after : Ends) (s : Status) (text : List ℕ) → Answers words before after (answer s text)
     → IsAtEnd after.left → IsDue words before after s text
-due_answer words before after status.Ok text a end = inl (a, end)
-due_answer words before after status.ChartRefused text a end = (a, end)
-due_answer words before after status.ScriptRefused text a end = (a, end)
+due_answer words before after status.Ok text a end = inl (inl (a, end))
+due_answer words before after status.ChartRefused text a end = inl (a, end)
+due_answer words before after status.ScriptRefused text a end = inl (a, end)
 due_answer words before after status.DiskFault text a end = (a, end)
-due_answer words before after status.Limit text a end = (a, inr end)
+due_answer words before after status.Limit text a end = inl (inl (a, end))
 due_answer words before after status.Journals text a end = (a, end)
 due_answer words before after status.Words text a end = absurd a.status
 due_answer words before after status.ReadFault text a end = absurd a.status
 due_answer words before after status.WriteFault text a end = absurd a.status
 due_answer words before after status.NoMemory text a end = absurd a.status
 due_answer words before after status.Unbuilt text a end = absurd a.status
+
+-- and so is a summary
+pub due_summary : (words : List (List ℕ)) (before after : Ends) (command : Command) (faults : ℕ) (s : Status) (text : List ℕ) → HasStatus (task.Run command) s faults faults
+    → IsSummed words before after (answer s text) → IsDue words before after s text
+due_summary words before after command faults status.Ok text is a = inl (inr a)
+due_summary words before after command faults status.ChartRefused text is a = inr a
+due_summary words before after command faults status.ScriptRefused text is a = inr a
+due_summary words before after command faults status.Limit text is a = inl (inr a)
+due_summary words before after command faults status.DiskFault text is a = absurd is
+due_summary words before after command faults status.Journals text is a = absurd is
+due_summary words before after command faults status.Words text is a = absurd is
+due_summary words before after command faults status.ReadFault text is a = absurd is
+due_summary words before after command faults status.WriteFault text is a = absurd is
+due_summary words before after command faults status.NoMemory text is a = absurd is
+due_summary words before after command faults status.Unbuilt text is a = absurd is
 
 -- ONE INPUT
 
@@ -168,7 +189,7 @@ short_trail shelf input a h may = let short : nat_le (length input) max_input �
 abbrev too_long : Answer
 too_long = answer status.Limit (refusal (codes "limit input"))
 
-long_answer : (command : Command) (input : List ℕ) → max_input < length input → MayGive command input too_long
+pub long_answer : (command : Command) (input : List ℕ) → max_input < length input → MayGive command input too_long
 unfolding answer_of
 long_answer command input h = let long : nat_le (length input) max_input ≡ false = grind (arith, nat_tests) in (no_outcomes, rw long refl)
 

@@ -1,5 +1,5 @@
 -- The lines of a play's script are lines of its chart, which a world may act.
-use Rattle.std.proofs.Common.{◌≡◌, ◌≤◌, ◌<◌, ◌==◌, ◌&&◌, ℕ, zero, ◌+◌, not, nat_le, nat_lt, Bool, true, false, if◌then◌else◌, List, [], ◌∷◌, length, map, Option, Some, None, Result, Ok, Err, IfSome, refl, sym, ap, subst, arith}
+use Rattle.std.proofs.Common.{◌≡◌, ◌≤◌, ◌==◌, ◌&&◌, ℕ, ◌+◌, not, nat_le, nat_lt, Bool, true, false, if◌then◌else◌, List, [], ◌∷◌, length, map, Option, Some, None, Result, Ok, Err, IfSome, refl, ap, subst, arith}
 use Rattle.std.specs.List.{list_all, position_from}
 use Rattle.std.specs.Option.{option_map}
 use Rattle.std.specs.Str.{bytes_eq}
@@ -10,7 +10,7 @@ use Rattle.wf_model.specs.Limits.{max_int, max_lines}
 use Rattle.wf_model.specs.Steps.{both}
 use Rattle.wf_model.specs.declared.chart.Chart.{Chart}
 use Rattle.wf_model.specs.declared.outer.Outer.{Outer}
-use Rattle.wf_model.specs.declared.outer.Outer.TheVariants.{Happen, Complete}
+use Rattle.wf_model.specs.declared.outer.Outer.TheVariants.{Happen}
 use Rattle.wf_model.specs.declared.outer.Output.{Output}
 use Rattle.wf_model.specs.declared.value.Val.{Val}
 use Rattle.wf_model.proofs.Bools.{and_true, and_both}
@@ -25,7 +25,6 @@ use Rattle.wf_cursor.specs.Values.{number, number_up_to}
 use Rattle.wf_scripts.specs.declared.script.ScriptFault.{ScriptFault}
 use Rattle.wf_scripts.specs.Lines.{lines_of}
 use Rattle.wf_scripts.specs.Names.{names_of}
-use Rattle.wf_scripts.specs.Outers as outers
 use Rattle.wf_scripts.specs.Outers.{given, output_of, between_commas, with_output, each_output, outputs_of, gives_of, completion, done_of, event_of, outer_of}
 use Rattle.wf_scripts.specs.Script.{or_refused, said_in, line_by, with_line, lines_from, script_by}
 use Rattle.wf_scripts.specs.Values.{text_at, int_by, int_at, value_of}

@@ -20,7 +20,10 @@ use Rattle.wf_machine.specs.Runs.{Outcomes, first_outcome, other_outcomes, repli
 use Rattle.wf_machine.proofs.Accounts.{at_server, new_at}
 use Rattle.wf_machine.proofs.Outcomes.{hears_no_outcomes}
 use Rattle.wf_world.specs.Sent.{is_over, passes}
-use Rattle.wf_top.specs.Answers.{answer, run_answer, run_of_play}
+use Rattle.wf_top.specs.declared.command.Telling.{Telling}
+use Rattle.wf_top.specs.declared.command.Telling.TheVariants.{Whole, Summary}
+use Rattle.wf_top.specs.Answers.{answer, run_answer, told_of_play, run_of_play}
+use Rattle.wf_top.specs.Summaries.{summary_line, summary_text}
 use Rattle.wf_top.specs.Laws.{is_arm, UnarmedPlaysHaveOneAnswer}
 use Rattle.wf_top.specs.Plays.{told_text, play_text}
 
@@ -218,9 +221,25 @@ ending_same : (chart : Chart) (m : CountingMachine) (bs cs : List Bool) → AreC
 unfolding ending closed
 ending_same chart m bs cs calm = ap (λ (l : List Server). ending_of chart m (record m { servers = l })) (ends_same m.servers calm bs cs)
 
-pub unarmed_plays : UnarmedPlaysHaveOneAnswer
-unfolding run_of_play play_text
-unarmed_plays chart lines o p unarmed =
+closed_same : (m : CountingMachine) (bs cs : List Bool) → AreCalm m → closed m bs ≡ closed m cs
+unfolding closed
+closed_same m bs cs calm = ap (λ (l : List Server). record m { servers = l }) (ends_same m.servers calm bs cs)
+
+told_same : (telling : Telling) (chart : Chart) (lines : List (ℕ × Line)) (o p : Outcomes) → list_any (λ x. is_arm x.1) lines ≡ false
+    → told_of_play telling chart o lines ≡ told_of_play telling chart p lines
+unfolding play_text summary_text
+told_same Whole chart lines o p unarmed =
     let same = same_lines chart lines (first_machine chart) o.at_lines p.at_lines unarmed (first_calm chart) in
     let last = ap (λ (m : CountingMachine). ending chart m o.at_end) same.after ∙ ending_same chart (after_lines chart (first_machine chart) p.at_lines lines) o.at_end p.at_end same.calm in
-    λ i. if same.over i then answer status.Limit (refusal (codes "limit sent")) else run_answer (told_text chart (same.replies i) (last i))
+    λ i. run_answer (told_text chart (same.replies i) (last i))
+told_same (Summary n) chart lines o p unarmed =
+    let same = same_lines chart lines (first_machine chart) o.at_lines p.at_lines unarmed (first_calm chart) in
+    let last = ap (λ (m : CountingMachine). closed m o.at_end) same.after ∙ closed_same (after_lines chart (first_machine chart) p.at_lines lines) o.at_end p.at_end same.calm in
+    ap (λ (m : CountingMachine). answer status.Ok (summary_line n chart m)) last
+
+pub unarmed_plays : UnarmedPlaysHaveOneAnswer
+unfolding run_of_play
+unarmed_plays telling chart lines o p unarmed =
+    let same = same_lines chart lines (first_machine chart) o.at_lines p.at_lines unarmed (first_calm chart) in
+    let told = told_same telling chart lines o p unarmed in
+    λ i. if same.over i then answer status.Limit (refusal (codes "limit sent")) else told i

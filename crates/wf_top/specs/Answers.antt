@@ -32,10 +32,13 @@ use Rattle.wf_audit.specs.CentralText.{central_text}
 use Rattle.wf_partition.specs.SplitText.{split_text}
 use Rattle.wf_top.specs.declared.command.Command.{Command}
 use Rattle.wf_top.specs.declared.command.Command.TheVariants.{Check, Central, Split, Play}
+use Rattle.wf_top.specs.declared.command.Telling.{Telling}
+use Rattle.wf_top.specs.declared.command.Telling.TheVariants.{Whole, Summary}
 use Rattle.wf_top.specs.declared.command.Task.{Task}
 use Rattle.wf_top.specs.declared.command.Task.TheVariants as task
 use Rattle.wf_top.specs.declared.answer.Answer.{Answer}
 use Rattle.wf_top.specs.Plays.{play_text}
+use Rattle.wf_top.specs.Summaries.{summary_text}
 
 -- ---- words
 
@@ -43,7 +46,8 @@ abbrev pub command_named : List ℕ → Option Command
 command_named word =
     if bytes_eq word (codes "check") then Some Check
     else (if bytes_eq word (codes "central") then Some Central
-    else (if bytes_eq word (codes "split") then Some Split else (if bytes_eq word (codes "play") then Some Play else None)))
+    else (if bytes_eq word (codes "split") then Some Split
+    else (if bytes_eq word (codes "play") then Some (Play Whole) else None)))
 
 -- a command, or the trail
 abbrev pub task_named : List ℕ → Option Task
@@ -63,12 +67,20 @@ is_number word = nat_le 1 (length word) && nat_le (length word) 10 && list_all i
 unfoldable pub written_number : List ℕ → Option ℕ
 written_number word = if is_number word then number_up_to 4294967295 word else None
 
--- the number that input is to be generated from: the words are `gen` and that number
+-- the number that stands behind this name: the words are the name and the number
+abbrev pub number_behind : List ℕ → List (List ℕ) → Option ℕ
+number_behind name [] = None
+number_behind name (word ∷ []) = None
+number_behind name (word ∷ number ∷ []) = if bytes_eq word name then written_number number else None
+number_behind name (word ∷ number ∷ other ∷ more) = None
+
+-- the number that input is to be generated from
 abbrev pub gen_number : List (List ℕ) → Option ℕ
-gen_number [] = None
-gen_number (word ∷ []) = None
-gen_number (word ∷ number ∷ []) = if bytes_eq word (codes "gen") then written_number number else None
-gen_number (word ∷ number ∷ other ∷ more) = None
+gen_number words = number_behind (codes "gen") words
+
+-- the number of the input whose play is to be summed up
+abbrev pub bulk_number : List (List ℕ) → Option ℕ
+bulk_number words = number_behind (codes "bulk") words
 
 -- ---- charts
 
@@ -106,24 +118,29 @@ central_answer chart script =
 
 -- ---- plays
 
--- the play of a script's lines, where its doubts turn out so, unless its messages come to too many bytes after one of them
-unfoldable pub run_of_play : Chart → Outcomes → List (ℕ × Line) → Answer
-run_of_play chart outcomes lines =
+-- what is told of the play of a script's lines, where its doubts turn out so
+abbrev pub told_of_play : Telling → Chart → Outcomes → List (ℕ × Line) → Answer
+told_of_play Whole chart outcomes lines = run_answer (play_text chart lines outcomes)
+told_of_play (Summary n) chart outcomes lines = answer status.Ok (summary_text n chart lines outcomes)
+
+-- the same, unless its messages come to too many bytes after one of the lines
+unfoldable pub run_of_play : Telling → Chart → Outcomes → List (ℕ × Line) → Answer
+run_of_play telling chart outcomes lines =
     if passes chart (first_machine chart) outcomes.at_lines lines
     then answer status.Limit (refusal (codes "limit sent"))
-    else run_answer (play_text chart lines outcomes)
+    else told_of_play telling chart outcomes lines
 
 -- the same, or the first line outside the grammar; for want of memory there is none
-abbrev pub play_lines_answer : Chart → Outcomes → Result (List (ℕ × Line)) ScriptFault → Answer
-play_lines_answer chart outcomes (Ok lines) = run_of_play chart outcomes lines
-play_lines_answer chart outcomes (Err (script.Refused line)) = answer status.ScriptRefused (script_line line)
-play_lines_answer chart outcomes (Err script.NoMemory) = answer status.NoMemory []
+abbrev pub play_lines_answer : Telling → Chart → Outcomes → Result (List (ℕ × Line)) ScriptFault → Answer
+play_lines_answer telling chart outcomes (Ok lines) = run_of_play telling chart outcomes lines
+play_lines_answer telling chart outcomes (Err (script.Refused line)) = answer status.ScriptRefused (script_line line)
+play_lines_answer telling chart outcomes (Err script.NoMemory) = answer status.NoMemory []
 
 -- the answer to a play's script, unless it has too many lines
-unfoldable pub play_answer : Chart → Outcomes → List ℕ → Answer
-play_answer chart outcomes script =
+unfoldable pub play_answer : Telling → Chart → Outcomes → List ℕ → Answer
+play_answer telling chart outcomes script =
     if nat_le (length (lines_of script)) max_lines
-    then play_lines_answer chart outcomes (play_of chart script)
+    then play_lines_answer telling chart outcomes (play_of chart script)
     else answer status.Limit too_many_lines
 
 -- ---- commands
@@ -134,7 +151,7 @@ chart_answer command outcomes script (Err line) = answer status.ChartRefused lin
 chart_answer Check outcomes script (Ok chart) = answer status.Ok (accepted_line chart)
 chart_answer Central outcomes script (Ok chart) = central_answer chart script
 chart_answer Split outcomes script (Ok chart) = run_answer (split_text chart)
-chart_answer Play outcomes script (Ok chart) = play_answer chart outcomes script
+chart_answer (Play telling) outcomes script (Ok chart) = play_answer telling chart outcomes script
 
 -- the answer to an input that isn't too long: its chart, then what the command does with it
 unfoldable pub answer_within : Command → Outcomes → List ℕ → Answer

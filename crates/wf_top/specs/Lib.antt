@@ -1,5 +1,8 @@
 pub mod Plays
+pub mod Summaries
 pub mod Answers
+pub mod Places
+pub mod Telling
 pub mod Trails
 pub mod Tasks
 pub mod Laws

@@ -10,7 +10,9 @@ use Rattle.wf_disk.specs.Shelf.{ShelfTold}
 use Rattle.wf_top.specs.declared.command.Task.{Task}
 use Rattle.wf_top.specs.declared.answer.Answer.{Answer}
 use Rattle.wf_gen.specs.GenText.{gen_text}
-use Rattle.wf_top.specs.Answers.{answer, task_of, gen_number}
+use Rattle.wf_top.specs.declared.command.Command.TheVariants.{Play}
+use Rattle.wf_top.specs.declared.command.Telling.TheVariants.{Summary}
+use Rattle.wf_top.specs.Answers.{answer, MayGive, task_of, gen_number, bulk_number}
 use Rattle.wf_top.specs.Tasks.{HasStatus, MayCome}
 
 -- source, sink and shelf at one moment: the bytes that the source has left and those that the sink holds, where they tell, and how
@@ -42,26 +44,39 @@ pub record IsGenerated (words : List (List ℕ)) (before after : Ends) (text : L
   pub made : text ≡ gen_text number
   pub unread : IsUnread before after
 
+-- the words name a number, this answer sums up the play of the input that is generated from it, and nothing was read
+pub record IsSummed (words : List (List ℕ)) (before after : Ends) (a : Answer) : Type 0 where
+  pub number : ℕ
+  pub named : bulk_number words ≡ Some number
+  pub answer : MayGive (Play (Summary number)) (gen_text number) a
+  pub unread : IsUnread before after
+
 -- the words name a task, and a read failed
 pub record IsUnreadable (words : List (List ℕ)) (before after : Ends) : Type 0 where
   pub task : Task
   pub named : task_of words ≡ Some task
   pub faults : Rose before.read_faults after.read_faults
 
--- This status with this text is due, by the words, by the bytes that the source had left, and by whether a read failed. An
--- answer to them is due once the source is read to its end; that they are too many may be found before.
+-- an answer to the bytes that the source had left, once it is read to its end; or one that sums up a play of generated input
+abbrev pub IsAnswer : List (List ℕ) → Ends → Ends → Answer → Type 0
+IsAnswer words before after a = (Answers words before after a × IsAtEnd after.left) ⊎ IsSummed words before after a
+
+-- This status with this text is due, by the words, by the bytes that the source had left, by the shelf, and by whether a read
+-- failed. That the bytes are too many may be found before the source is read to its end.
 abbrev pub IsDue : List (List ℕ) → Ends → Ends → Status → List ℕ → Type 0
-IsDue words before after status.Ok text = (Answers words before after (answer status.Ok text) × IsAtEnd after.left) ⊎ IsGenerated words before after text
-IsDue words before after status.ChartRefused text = Answers words before after (answer status.ChartRefused text) × IsAtEnd after.left
-IsDue words before after status.ScriptRefused text = Answers words before after (answer status.ScriptRefused text) × IsAtEnd after.left
-IsDue words before after status.Limit text = Answers words before after (answer status.Limit text) × ((text ≡ refusal (codes "limit input")) ⊎ IsAtEnd after.left)
-IsDue words before after status.Words text = (task_of words ≡ None) × (gen_number words ≡ None) × IsUnread before after × (text ≡ refusal (codes "words"))
+IsDue words before after status.Ok text = IsAnswer words before after (answer status.Ok text) ⊎ IsGenerated words before after text
+IsDue words before after status.ChartRefused text = IsAnswer words before after (answer status.ChartRefused text)
+IsDue words before after status.ScriptRefused text = IsAnswer words before after (answer status.ScriptRefused text)
+IsDue words before after status.Limit text =
+    IsAnswer words before after (answer status.Limit text) ⊎ (Answers words before after (answer status.Limit text) × (text ≡ refusal (codes "limit input")))
+IsDue words before after status.DiskFault text = Answers words before after (answer status.DiskFault text) × IsAtEnd after.left
+IsDue words before after status.Journals text = Answers words before after (answer status.Journals text) × IsAtEnd after.left
+IsDue words before after status.Words text =
+    (task_of words ≡ None) × (gen_number words ≡ None) × (bulk_number words ≡ None) × IsUnread before after × (text ≡ refusal (codes "words"))
 IsDue words before after status.ReadFault text = IsUnreadable words before after × (text ≡ refusal (codes "read"))
 IsDue words before after status.WriteFault text = ⊥
 IsDue words before after status.NoMemory text = ⊥
 IsDue words before after status.Unbuilt text = ⊥
-IsDue words before after status.DiskFault text = Answers words before after (answer status.DiskFault text) × IsAtEnd after.left
-IsDue words before after status.Journals text = Answers words before after (answer status.Journals text) × IsAtEnd after.left
 
 -- what is due was written, and no write failed
 pub record IsWritten (words : List (List ℕ)) (before after : Ends) (s : Status) : Type 0 where

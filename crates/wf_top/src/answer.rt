@@ -51,7 +51,7 @@ fn chart_answer(
         Command::Check => check_answer(alloc, &chart),
         Command::Central => central(alloc, &chart, script),
         Command::Split => split(alloc, &chart),
-        Command::Play => play(alloc, chart, script),
+        Command::Play(telling) => play(alloc, telling, chart, script),
     }
 }
 

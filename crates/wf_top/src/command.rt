@@ -7,6 +7,15 @@ ghost use Rattle.wf_top.specs.Answers as spec;
 use wf_cursor::number_up_to;
 use wf_model::{Bytes, is_digit};
 
+/// What is told of a play.
+#[derive(Clone, Copy)]
+pub enum Telling {
+    /// The reply to each line, and the ending.
+    Whole,
+    /// One line that sums it up, as the play of the input that is generated from this number.
+    Summary(u32),
+}
+
 /// What the words of a run ask of its input.
 #[derive(Clone, Copy)]
 pub enum Command {
@@ -16,8 +25,8 @@ pub enum Command {
     Central,
     /// Cut the chart of the input into the parts of its units.
     Split,
-    /// Run the script of the input on the servers of the chart's units.
-    Play,
+    /// Run the script of the input on the servers of the chart's units, and tell this of it.
+    Play(Telling),
 }
 
 /// What a run is to do with its input.
@@ -39,7 +48,7 @@ fn command_named(word: &[u8]) -> Option<Command>
     } else if word == b"split".as_slice() {
         Some(Command::Split)
     } else if word == b"play".as_slice() {
-        Some(Command::Play)
+        Some(Command::Play(Telling::Whole))
     } else {
         None
     }
@@ -94,12 +103,26 @@ fn written_number(word: &[u8]) -> Option<u32>
     }
 }
 
+// The number that stands behind this name, if the words are the name and a number.
+fn number_behind(name: &[u8], words: &[Bytes]) -> Option<u32>
+    ensures { result ≡ spec.number_behind name.now words.now }
+{
+    match words {
+        [word, number] if word.as_slice() == name => written_number(number.as_slice()),
+        _ => None,
+    }
+}
+
 /// The number that input is to be generated from, if the words are `gen` and a number.
 pub fn gen_number(words: &[Bytes]) -> Option<u32>
     ensures { result ≡ spec.gen_number words.now }
 {
-    match words {
-        [word, number] if word.as_slice() == b"gen".as_slice() => written_number(number.as_slice()),
-        _ => None,
-    }
+    number_behind(b"gen", words)
+}
+
+/// The number of the generated input whose play is to be summed up, if the words are `bulk` and a number.
+pub fn bulk_number(words: &[Bytes]) -> Option<u32>
+    ensures { result ≡ spec.bulk_number words.now }
+{
+    number_behind(b"bulk", words)
 }

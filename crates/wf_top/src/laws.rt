@@ -1,7 +1,7 @@
 //! Laws of answers.
-ghost use Rattle.wf_top.specs.Laws.{HaveOneAnswer, UnarmedPlaysHaveOneAnswer, EndsShowOutcomes};
+ghost use Rattle.wf_top.specs.Laws.{HaveOneAnswer, UnarmedPlaysHaveOneAnswer, BulksHaveOneAnswer, EndsShowOutcomes};
 
-/// The answer of a command other than `play` depends on its input alone.
+/// The answer of a command that runs no play depends on its input alone.
 pub fn have_one_answer()
     ensures { HaveOneAnswer }
 {}
@@ -9,6 +9,11 @@ pub fn have_one_answer()
 /// The answer to a play in which no disk is armed depends on its chart and its lines alone.
 pub fn unarmed_plays_have_one_answer()
     ensures { UnarmedPlaysHaveOneAnswer }
+{}
+
+/// So the answer that sums up a play of generated input depends on its number alone.
+pub fn bulks_have_one_answer()
+    ensures { BulksHaveOneAnswer }
 {}
 
 /// The counts behind a play's end show how the doubts came out that were left.

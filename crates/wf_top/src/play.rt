@@ -1,15 +1,19 @@
 //! The command `play`.
-ghost use Rattle.std.specs.Prelude.{◌≡◌, ◌≤◌, length, map, flat_map, IfOk};
+ghost use Rattle.std.specs.Prelude.{◌≡◌, ◌≤◌, false, length, map, flat_map, IfOk};
 ghost use Rattle.wf_audit.specs.CentralText.{Adds, GivesText};
+ghost use Rattle.wf_machine.specs.Machine.{merged_places};
 ghost use Rattle.wf_machine.specs.Runs.{Outcomes};
 ghost use Rattle.wf_model.specs.Limits.{max_input, max_lines, max_report};
 ghost use Rattle.wf_play.specs.Script.{play_of};
 ghost use Rattle.wf_scripts.specs.Lines.{lines_of};
-ghost use Rattle.wf_world.specs.States.{DoFit, first_state};
+ghost use Rattle.wf_world.specs.States.{DoFit, first_state, state_of};
 ghost use Rattle.wf_top.specs.Answers as spec;
 ghost use Rattle.wf_top.specs.Plays.{reply_line, told_text};
+ghost use Rattle.wf_top.specs.Telling.{told_by};
 
 use crate::answer::Answer;
+use crate::command::Telling;
+use crate::summary::summary_line;
 use std::alloc::Global;
 use wf_audit::RunFault;
 use wf_drive::{DriveFault, Driven, drive};
@@ -86,16 +90,44 @@ fn report(
     }
 }
 
+// The answer that tells of a play what is to be told, where this is the world after it.
+fn tell(
+    alloc: Global,
+    telling: Telling,
+    world: &World,
+    replies: &[(u32, Reply)],
+    ending: &Ending,
+) -> Result<Answer, NoMemory>
+    requires list { ending.now.merged ≡ merged_places (state_of world.now).machine }
+    requires whole { world.now.lost ≡ false }
+    ensures { let after = state_of world.now in
+        IfOk result (λ a. a ≡ told_by telling after.chart replies.now ending.now after.machine) }
+{
+    match telling {
+        Telling::Whole => report(alloc, world.checked(), replies, ending),
+        Telling::Summary(number) => {
+            let line = summary_line(alloc, number, world, ending.merged.as_slice())?;
+            Ok(Answer::new(Status::Ok, line))
+        }
+    }
+}
+
 // The answer of a run of these lines on new servers.
-fn run(alloc: Global, checked: Checked, lines: &List<(u32, Line)>) -> Result<Answer, NoMemory>
+fn run(
+    alloc: Global,
+    telling: Telling,
+    checked: Checked,
+    lines: &List<(u32, Line)>,
+) -> Result<Answer, NoMemory>
     requires { DoFit (first_state checked) (map (λ x. x.1) lines.now) }
-    ensures { IfOk result (λ a. (outcomes : Outcomes) × (a ≡ spec.run_of_play checked outcomes lines.now)) }
+    ensures { IfOk result (λ a. (outcomes : Outcomes) × (a ≡ spec.run_of_play telling checked outcomes lines.now)) }
 {
     let mut world = World::start(alloc, checked)?;
     match drive(alloc, &mut world, lines) {
-        Ok(driven) => report(
+        Ok(driven) => tell(
             alloc,
-            world.checked(),
+            telling,
+            &world,
             driven.replies.as_slice(),
             &driven.ending,
         ),
@@ -108,13 +140,19 @@ fn run(alloc: Global, checked: Checked, lines: &List<(u32, Line)>) -> Result<Ans
 }
 
 // The answer to a script of few enough lines.
-fn answer_lines(alloc: Global, checked: Checked, script: &[u8]) -> Result<Answer, NoMemory>
+fn answer_lines(
+    alloc: Global,
+    telling: Telling,
+    checked: Checked,
+    script: &[u8],
+) -> Result<Answer, NoMemory>
     requires within { length script.now ≤ max_input }
     requires few { length (lines_of script.now) ≤ max_lines }
-    ensures { IfOk result (λ a. (outcomes : Outcomes) × (a ≡ spec.play_lines_answer checked outcomes (play_of checked script.now))) }
+    ensures { let lines = play_of checked script.now in
+        IfOk result (λ a. (outcomes : Outcomes) × (a ≡ spec.play_lines_answer telling checked outcomes lines)) }
 {
     match read_play(alloc, &checked, script) {
-        Ok(lines) => run(alloc, checked, &lines),
+        Ok(lines) => run(alloc, telling, checked, &lines),
         Err(ScriptFault::Refused { line }) => Ok(Answer::new(
             Status::ScriptRefused,
             script_line(alloc, line)?,
@@ -123,16 +161,21 @@ fn answer_lines(alloc: Global, checked: Checked, script: &[u8]) -> Result<Answer
     }
 }
 
-/// The answer to a script of a play on the servers of this chart: the text of the play, where its doubts turn out in some
-/// way; or that there are more than `MAX_LINES` lines, which line is the first outside the grammar, that the messages come
-/// to more than `MAX_SENT` bytes, or that the text has more than `MAX_REPORT` bytes, the first of these that holds.
+/// The answer to a script of a play on the servers of this chart: what is to be told of the play, where its doubts turn out
+/// in some way; or that there are more than `MAX_LINES` lines, which line is the first outside the grammar, that the messages
+/// come to more than `MAX_SENT` bytes, or that the text has more than `MAX_REPORT` bytes, the first of these that holds.
 #[tactic(auto, unfolding(crate::specs::Answers::play_answer))]
-pub fn play(alloc: Global, checked: Checked, script: &[u8]) -> Result<Answer, NoMemory>
+pub fn play(
+    alloc: Global,
+    telling: Telling,
+    checked: Checked,
+    script: &[u8],
+) -> Result<Answer, NoMemory>
     requires { length script.now ≤ max_input }
-    ensures { IfOk result (λ a. (outcomes : Outcomes) × (a ≡ spec.play_answer checked outcomes script.now)) }
+    ensures { IfOk result (λ a. (outcomes : Outcomes) × (a ≡ spec.play_answer telling checked outcomes script.now)) }
 {
     if line_count(script) <= MAX_LINES {
-        answer_lines(alloc, checked, script)
+        answer_lines(alloc, telling, checked, script)
     } else {
         Ok(Answer::new(Status::Limit, too_many_lines(alloc)?))
     }

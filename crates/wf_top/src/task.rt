@@ -1,7 +1,7 @@
 //! What comes of an input.
 ghost use Rattle.std.specs.Prelude.{◌≡◌, ◌≢◌, ◌≤◌, length, IfOk};
 ghost use Rattle.wf_model.specs.Limits.{max_input};
-ghost use Rattle.wf_trail.specs.Shelves.{KeepsDisks};
+ghost use Rattle.wf_trail.specs.Shelves.{KeepsDisks, KeepsBodies};
 ghost use Rattle.wf_top.specs.Tasks as spec;
 
 use crate::answer::{Answer, answer_to};
@@ -22,6 +22,7 @@ pub fn do_task<H: DiskShelf>(
     ensures answer { IfOk result (λ a. spec.MayCome task (H.told shelf.old) input.now a) }
     ensures status { IfOk result (λ a. spec.HasStatus task a.status (H.told shelf.old).faults (H.told shelf.new).faults) }
     ensures disks { KeepsDisks (H.told shelf.old) (H.told shelf.new) }
+    ensures bodies { KeepsBodies (H.told shelf.old) (H.told shelf.new) }
     ensures untouched { task ≢ Task.Trail → shelf.new ≡ shelf.old }
 {
     match task {

@@ -2,13 +2,14 @@
 ghost use Rattle.std.specs.Prelude.{◌≡◌, ◌≢◌, ◌⊎◌, ◌≤◌, ℕ, length, take, Some};
 ghost use Rattle.std.specs.Io.KnownBytes.{Appends};
 ghost use Rattle.wf_model.specs.Faults.{Rose};
-ghost use Rattle.wf_trail.specs.Shelves.{KeepsDisks};
+ghost use Rattle.wf_trail.specs.Shelves.{KeepsDisks, KeepsBodies};
 ghost use Rattle.wf_top.specs.Answers.{task_of};
 ghost use Rattle.wf_top.specs.Top.{MayAnswer};
 ghost use Rattle.wf_top.specs.declared.command.Task.TheVariants.{Trail};
 ghost use Rattle.wf_model.specs.declared.status.Status.TheVariants.{WriteFault};
 
-use crate::command::{gen_number, task_of};
+use crate::bulk::bulk;
+use crate::command::{bulk_number, gen_number, task_of};
 use crate::task::do_task;
 use std::alloc::Global;
 use wf_disk::DiskShelf;
@@ -33,13 +34,14 @@ fn finish<K: Sink>(sink: &mut K, status: Status, text: &[u8]) -> Status
 /// `check` checks the chart of an input, the word `central` runs its script on the chart, the word `split` cuts the chart
 /// into the parts of its units, the word `play` runs its script on servers of all units, and the word `trail` tells what
 /// the journals of all units hold, which stand on the shelf. The words `gen N` write the input that is generated from the
-/// number N, and read nothing. The last moment that the clock gave stays the last one.
+/// number N, and `bulk N` write a line that sums up the play of it; both read nothing. The last moment that the clock gave
+/// stays the last one.
 ///
 /// Grows with the input, with what is written, and with the states times their depth; a step of a run grows with the
 /// states times their depth and with the transitions; `split` and the start of `play` grow with the states and with the
 /// transitions, each times the transitions and the depth of states, and with the units times the chart; a line of `play`
-/// grows with what its servers do; `trail` grows as `split` does, and with the journals, for each turn with its unit's
-/// part and view.
+/// grows with what its servers do; `bulk` grows as a play, and as a run of its steps; `trail` grows as `split` does, and
+/// with the journals, for each turn with its unit's part and view.
 pub fn mentor<S: Source, K: Sink, C: Clock, H: DiskShelf>(
     alloc: Global,
     words: &List<Bytes>,
@@ -51,6 +53,7 @@ pub fn mentor<S: Source, K: Sink, C: Clock, H: DiskShelf>(
     ensures clock { C.last clock.new ≡ C.last clock.old }
     ensures untouched { task_of words.now ≢ Some Trail → shelf.new ≡ shelf.old }
     ensures disks { KeepsDisks (H.told shelf.old) (H.told shelf.new) }
+    ensures bodies { KeepsBodies (H.told shelf.old) (H.told shelf.new) }
     ensures answer { MayAnswer words.now
         (record { left = S.left source.old; read_faults = S.faults source.old; held = K.held sink.old; write_faults = K.faults sink.old; shelf = H.told shelf.old })
         (record { left = S.left source.new; read_faults = S.faults source.new; held = K.held sink.new; write_faults = K.faults sink.new; shelf = H.told shelf.new })
@@ -59,6 +62,12 @@ pub fn mentor<S: Source, K: Sink, C: Clock, H: DiskShelf>(
     if let Some(number) = gen_number(words.as_slice()) {
         return match gen_text(alloc, number) {
             Ok(text) => finish(sink, Status::Ok, text.as_slice()),
+            Err(NoMemory) => Status::NoMemory,
+        };
+    }
+    if let Some(number) = bulk_number(words.as_slice()) {
+        return match bulk(alloc, number) {
+            Ok(found) => finish(sink, found.status, found.text.as_slice()),
             Err(NoMemory) => Status::NoMemory,
         };
     }

@@ -1,7 +1,7 @@
 //! The command `trail`.
 ghost use Rattle.std.specs.Prelude.{◌≡◌, ◌≢◌, ◌≤◌, Err, length, IfOk, OnOk};
 ghost use Rattle.wf_model.specs.Limits.{max_input};
-ghost use Rattle.wf_trail.specs.Shelves.{KeepsDisks};
+ghost use Rattle.wf_trail.specs.Shelves.{KeepsDisks, KeepsBodies};
 ghost use Rattle.wf_top.specs.Tasks.{HasStatus};
 ghost use Rattle.wf_top.specs.Trails as spec;
 ghost use Rattle.wf_top.specs.declared.command.Task.TheVariants.{Trail};
@@ -42,13 +42,15 @@ fn trail_chart<H: DiskShelf>(
     ensures answer { IfOk result (λ a. spec.MayTrailChart (H.told shelf.old) (Ok checked.now) a) }
     ensures status { IfOk result (λ a. HasStatus Trail a.status (H.told shelf.old).faults (H.told shelf.new).faults) }
     ensures disks { KeepsDisks (H.told shelf.old) (H.told shelf.new) }
+    ensures bodies { KeepsBodies (H.told shelf.old) (H.told shelf.new) }
 {
     let found = trail(alloc, checked, shelf);
     answer_by(alloc, checked, found)
 }
 
 /// What the journals of the units of the input's chart hold, a line for each record; or that the text has more than
-/// `MAX_REPORT` bytes, whose journal is the first that is wrong, or that a disk failed. Each disk has the image that it had.
+/// `MAX_REPORT` bytes, whose journal is the first that is wrong, or that a disk failed. Each disk has the image that it had, and
+/// a crash leaves of it the bodies of what a crash before may have left.
 /// Grows with the chart, with the journals, each turn of which takes its unit's part and view, and with the text.
 pub fn trail_answer<H: DiskShelf>(
     alloc: Global,
@@ -59,6 +61,7 @@ pub fn trail_answer<H: DiskShelf>(
     ensures answer { IfOk result (λ a. spec.MayTrailWithin (H.told shelf.old) input.now a) }
     ensures status { IfOk result (λ a. HasStatus Trail a.status (H.told shelf.old).faults (H.told shelf.new).faults) }
     ensures disks { KeepsDisks (H.told shelf.old) (H.told shelf.new) }
+    ensures bodies { KeepsBodies (H.told shelf.old) (H.told shelf.new) }
 {
     let parts = divide(input);
     match chart_in(alloc, parts.chart)? {

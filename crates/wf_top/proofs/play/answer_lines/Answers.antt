@@ -16,5 +16,5 @@ returns-in-Err-Refused c =
     let line = c.in-Err-Refused.line in
     let is : play_of c.args.checked c.args.script.now ≡ Err (scripts.Refused c.in-Err-Refused.line) = search rules in
     let text : c.in_ok-script_line-in-Err-Refused.field-0 ≡ script_line c.in-Err-Refused.line = search rules in
-    let found = refused c.args.checked c.args.script.now line is in
+    let found = refused c.args.telling c.args.checked c.args.script.now line is in
     (found.0, c.new.ensures ∙ ap (answer status.ScriptRefused) text ∙ found.1)

@@ -1,4 +1,4 @@
-use Rattle.std.proofs.Common.{rules, ◌≡◌, ◌∙◌, List, ℕ, Result, Err, length, ap, subst, sym, flat_map}
+use Rattle.std.proofs.Common.{rules, ◌≡◌, List, ℕ, Result, Err, subst, sym, flat_map}
 use Rattle.wf_audit.specs.declared.central.RunFault.{RunFault}
 use Rattle.wf_audit.specs.CentralText.{GivesText}
 use Rattle.wf_audit.proofs.Sights.{gives_fault}

@@ -11,5 +11,5 @@ pub returns-in_ok-too_many_lines : goal.returns-in_ok-too_many_lines
 returns-in_ok-too_many_lines c =
     let many : max_lines < length (lines_of c.args.script.now) = omega (arith, c.line_count.ensures, c.if-line_count-le-MAX_LINES.false) in
     let text : c.in_ok-too_many_lines.field-0 ≡ too_many_lines = search rules in
-    let found = many_lines c.args.checked c.args.script.now many in
+    let found = many_lines c.args.telling c.args.checked c.args.script.now many in
     (found.0, c.new.ensures ∙ ap (answer status.Limit) text ∙ found.1)

@@ -11,10 +11,16 @@ use Rattle.wf_world.specs.declared.fault.ActFault.{ActFault}
 use Rattle.wf_world.specs.declared.fault.ActFault.TheVariants as stops
 use Rattle.wf_world.specs.States as states
 use Rattle.wf_world.specs.States.{WorldState, Acts, MayBreak, state_of, first_state}
-use Rattle.wf_top.specs.Answers.{answer, run_answer}
-use Rattle.wf_top.specs.Plays.{told_text}
-use Rattle.wf_top.proofs.Plays.{if_ok, kept_chart, ran, stopped}
+use Rattle.wf_top.specs.Answers.{answer}
+use Rattle.wf_top.specs.Telling.{told_by}
+use Rattle.wf_top.proofs.Plays.{if_ok, kept_chart, ran, merged_is, stopped}
 use Rattle.wf_top.proofs.play.run.Goals as goal
+
+pub tell-requires : goal.tell-requires
+tell-requires c = record {
+  list = merged_is c.in-Ok.ensures.run.0 (state_of c.drive.new.servers) c.in-Ok.driven.ending c.in-Ok.ensures.run.2;
+  whole = c.in-Ok.ensures.run.2.whole;
+}
 
 pub returns-in-Ok : goal.returns-in-Ok
 returns-in-Ok c =
@@ -25,21 +31,19 @@ returns-in-Ok c =
     let went = c.in-Ok.ensures.run in
     let start : state_of c.in_ok-world.world ≡ first_state c.args.checked = search rules in
     let run = subst (λ (s : WorldState). Runs Acts s lines replies went.0) start went.1 in
-    let lent : c.checked.result.now ≡ c.drive.new.servers.chart = search rules in
     let whole : c.as_slice.result.now ≡ c.in-Ok.driven.replies = search rules in
-    let chart = lent ∙ kept_chart c.args.checked lines replies end went.0 last run went.2 in
-    let found = ran c.args.checked lines replies end went.0 last run went.2 in
-    if_ok c.report.result
-    (λ a is. (found.0, is ∙ ap₂ (λ (k : Chart) (rs : List (ℕ × Reply)). run_answer (told_text k rs end)) chart whole ∙ found.1)) c.report.ensures
+    let chart = kept_chart c.args.checked lines replies end went.0 last run went.2 in
+    let found = ran c.args.telling c.args.checked lines replies end went.0 last run went.2 in
+    if_ok c.tell.result
+    (λ a is. (found.0, is ∙ ap₂ (λ (k : Chart) (rs : List (ℕ × Reply)). told_by c.args.telling k rs end last.machine) chart whole ∙ found.1)) c.tell.ensures
 
 pub returns-in-Err-Servers-SentLimit : goal.returns-in-Err-Servers-SentLimit
 returns-in-Err-Servers-SentLimit c =
     let start : state_of c.in_ok-world.world ≡ first_state c.args.checked = search rules in
     let text : c.in_ok-from_slice-in-Err-Servers-SentLimit.field-0 ≡ refusal (codes "limit sent") = search rules in
-    let is : c.in-Err-Servers-SentLimit.field-0 ≡ drives.Servers stops.SentLimit =
-    c.in-Err-Servers-SentLimit.field-0-is ∙ ap (λ (f : ActFault). drives.Servers f) c.in-Err-Servers-SentLimit.field-0-0-is in
+    let is : c.in-Err-Servers-SentLimit.field-0 ≡ drives.Servers stops.SentLimit = search rules in
     let fault = subst (λ (f : DriveFault ActFault). MayStop {R = Reply} Acts states.MayRefuse MayBreak (state_of c.in_ok-world.world) c.args.lines.now f) is
     c.in-Err-Servers-SentLimit.ensures.fault in
     let stop = subst (λ (s : WorldState). MayRefuse {R = Reply} Acts states.MayRefuse MayBreak s c.args.lines.now stops.SentLimit) start fault in
-    let found = stopped c.args.checked c.args.lines.now stop in
+    let found = stopped c.args.telling c.args.checked c.args.lines.now stop in
     (found.0, c.new.ensures ∙ ap (answer status.Limit) text ∙ found.1)

@@ -1,4 +1,5 @@
 mod Moves
 mod Divided
 mod Short
-pub mod Read
+mod Read
+mod Unarmed

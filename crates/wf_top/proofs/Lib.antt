@@ -3,7 +3,6 @@ pub mod Fits
 pub mod Plays
 pub mod Summaries
 pub mod Unarmed
-pub mod Generated
 pub mod Dues
 pub mod Trails
 pub mod Ends

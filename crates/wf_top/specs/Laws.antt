@@ -6,11 +6,9 @@ use Rattle.wf_machine.specs.declared.line.Line.{Line}
 use Rattle.wf_machine.specs.declared.line.Line.TheVariants as line
 use Rattle.wf_machine.specs.Machine.{CountingMachine}
 use Rattle.wf_machine.specs.Runs.{Outcomes, closed, ending}
-use Rattle.wf_gen.specs.GenText.{gen_text}
 use Rattle.wf_top.specs.declared.command.Command.{Command}
 use Rattle.wf_top.specs.declared.command.Command.TheVariants.{Play}
 use Rattle.wf_top.specs.declared.command.Telling.{Telling}
-use Rattle.wf_top.specs.declared.command.Telling.TheVariants.{Summary}
 use Rattle.wf_top.specs.Answers.{answer_of, run_of_play}
 
 -- the command runs a play
@@ -33,10 +31,6 @@ abbrev pub UnarmedPlaysHaveOneAnswer : Type 0
 UnarmedPlaysHaveOneAnswer =
     (telling : Telling) (chart : Chart) (lines : List (ℕ × Line)) (o p : Outcomes) → list_any (λ x. is_arm x.1) lines ≡ false →
     run_of_play telling chart o lines ≡ run_of_play telling chart p lines
-
--- so the summary of a play of generated input is one
-abbrev pub BulksHaveOneAnswer : Type 0
-BulksHaveOneAnswer = (n : ℕ) (o p : Outcomes) → answer_of (Play (Summary n)) o (gen_text n) ≡ answer_of (Play (Summary n)) p (gen_text n)
 
 -- The counts behind a play's end show how the doubts came out that were left: where these are the same, so is the machine after it.
 abbrev pub EndsShowOutcomes : Type 0

@@ -1,5 +1,5 @@
 //! Laws of answers.
-ghost use Rattle.wf_top.specs.Laws.{HaveOneAnswer, UnarmedPlaysHaveOneAnswer, BulksHaveOneAnswer, EndsShowOutcomes};
+ghost use Rattle.wf_top.specs.Laws.{HaveOneAnswer, UnarmedPlaysHaveOneAnswer, EndsShowOutcomes};
 
 /// The answer of a command that runs no play depends on its input alone.
 pub fn have_one_answer()
@@ -9,11 +9,6 @@ pub fn have_one_answer()
 /// The answer to a play in which no disk is armed depends on its chart and its lines alone.
 pub fn unarmed_plays_have_one_answer()
     ensures { UnarmedPlaysHaveOneAnswer }
-{}
-
-/// So the answer that sums up a play of generated input depends on its number alone.
-pub fn bulks_have_one_answer()
-    ensures { BulksHaveOneAnswer }
 {}
 
 /// The counts behind a play's end show how the doubts came out that were left.

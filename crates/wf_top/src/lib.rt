@@ -29,7 +29,5 @@ mod top;
 mod trail;
 
 pub use exit::exit_number;
-pub use laws::{
-    bulks_have_one_answer, ends_show_outcomes, have_one_answer, unarmed_plays_have_one_answer,
-};
+pub use laws::{ends_show_outcomes, have_one_answer, unarmed_plays_have_one_answer};
 pub use top::mentor;

@@ -38,7 +38,8 @@ use Rattle.wf_top.specs.declared.command.Command.TheVariants.{Play}
 use Rattle.wf_top.specs.declared.command.Telling.{Telling}
 use Rattle.wf_top.specs.declared.command.Telling.TheVariants.{Summary}
 use Rattle.wf_top.specs.Answers.{answer, answer_of, answer_within, chart_answer, chart_in, play_answer, play_lines_answer}
-use Rattle.wf_top.specs.Laws.{is_arm, BulksHaveOneAnswer}
+use Rattle.wf_top.specs.Laws.{is_arm}
+use Rattle.wf_gen_laws.specs.Laws.{BulksHaveOneAnswer}
 use Rattle.wf_top.proofs.Unarmed.{unarmed_plays}
 
 -- TEXTS WITHOUT `ar`

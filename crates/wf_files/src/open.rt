@@ -4,12 +4,11 @@ use std::io;
 use std::io::ErrorKind;
 use std::os::fd::AsRawFd;
 
-/// Makes the folder, if it is missing. One that was made stays after a crash.
+/// Makes the folder, if it is missing. It stays after a crash, also if a run that was killed has made it just before.
 fn make_folder<R: Files<File = File>>(system: &R, folder: &str, above: &str) -> io::Result<()> {
     match fs::create_dir(system, folder) {
-        Ok(()) => File::open(system, above)?.sync_all(),
-        Err(error) if error.kind() == ErrorKind::AlreadyExists => Ok(()),
-        Err(error) => Err(error),
+        Err(error) if error.kind() != ErrorKind::AlreadyExists => Err(error),
+        _ => File::open(system, above)?.sync_all(),
     }
 }
 

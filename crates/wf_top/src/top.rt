@@ -1,5 +1,5 @@
 //! The top call.
-ghost use Rattle.std.specs.Prelude.{◌≡◌, ◌≢◌, ◌⊎◌, ◌≤◌, ℕ, length, take, Some};
+ghost use Rattle.std.specs.Prelude.{◌≡◌, ◌≢◌, ◌⊎◌, ◌≤◌, ℕ, length, take, Some, None};
 ghost use Rattle.std.specs.Io.KnownBytes.{Appends};
 ghost use Rattle.wf_model.specs.Faults.{Rose};
 ghost use Rattle.wf_trail.specs.Shelves.{KeepsDisks, KeepsBodies};
@@ -34,8 +34,13 @@ fn finish<K: Sink>(sink: &mut K, status: Status, text: &[u8]) -> Status
 /// `check` checks the chart of an input, the word `central` runs its script on the chart, the word `split` cuts the chart
 /// into the parts of its units, the word `play` runs its script on servers of all units, and the word `trail` tells what
 /// the journals of all units hold, which stand on the shelf. The words `gen N` write the input that is generated from the
-/// number N, and `bulk N` write a line that sums up the play of it; both read nothing. The last moment that the clock gave
-/// stays the last one.
+/// number N, and `bulk N` write a line that sums up the play of it; both leave the source as it was, and so do words that are
+/// refused. The last moment that the clock gave stays the last one.
+///
+/// `Ok` comes if the text was written, and `WriteFault` if the sink failed. `Words` refuses the words, `ReadFault` tells that
+/// the source failed, `ChartRefused` and `ScriptRefused` what is wrong with the input, `Limit` that the input, the messages or
+/// the text are too large, `DiskFault` and `Journals` of the word `trail` that a disk failed or what is wrong with a journal, and
+/// `NoMemory` that memory ran out; then nothing is written.
 ///
 /// Grows with the input, with what is written, and with the states times their depth; a step of a run grows with the
 /// states times their depth and with the transitions; `split` and the start of `play` grow with the states and with the
@@ -51,6 +56,7 @@ pub fn mentor<S: Source, K: Sink, C: Clock, H: DiskShelf>(
     shelf: &mut H,
 ) -> Status
     ensures clock { C.last clock.new ≡ C.last clock.old }
+    ensures unread { task_of words.now ≡ None → source.new ≡ source.old }
     ensures untouched { task_of words.now ≢ Some Trail → shelf.new ≡ shelf.old }
     ensures disks { KeepsDisks (H.told shelf.old) (H.told shelf.new) }
     ensures bodies { KeepsBodies (H.told shelf.old) (H.told shelf.new) }

@@ -26,8 +26,8 @@ abbrev pub kept_with : PartData → List ℕ → List (List ℕ) → Result (Opt
 kept_with part file [] = Ok None
 kept_with part file (body ∷ bodies) = some_of (history_of part file)
 
--- What an image holds of the part's unit: the history of its frames, none where it has no frame; or what is wrong first. An open
--- gate without a whole frame behind it is bad, unless the image has fewer than two bytes.
+-- What an image holds of the part's unit: the history of its frames, none where it has no frame; or what is wrong. An open gate without
+-- a whole frame behind it is bad, whatever records stand before it, unless the image has fewer than two bytes.
 unfoldable pub kept_in : PartData → List ℕ → Result (Option History) RecoverFault
 kept_in part file = if can_start file then kept_with part file (bodies_of file) else Err (steps.BadRecord (end_of file) open_gate)
 

@@ -14,7 +14,7 @@ pub record KeepsDisks (old new : ShelfTold) : Type 0 where
   pub image : (name : List ℕ) → new.image name ≡ old.image name
   pub taken_at : (name : List ℕ) → new.taken_at name ≡ old.taken_at name
 
--- A crash now, and one at some moment since its disk was taken, if it was, leaves of this disk the bodies of what a crash before may
+-- A crash now, and one at some moment since its disk was last taken, leaves of this disk the bodies of what a crash before may
 -- have left, and a journal starts on it if one starts on that.
 pub record LeavesBodies (name : List ℕ) (old new : ShelfTold) : Type 0 where
   pub now : (c : List ℕ) → new.may_leave name c → HasBodiesOf (old.may_leave name) c

@@ -273,8 +273,9 @@ fn finish(trail: Trails) -> Result<Bytes, TrailFault>
 }
 
 /// What the journals of the chart's units tell, a line for each record. All disks are taken before the first is read, and each is
-/// given back, with its image as it was, whatever is answered. A crash meanwhile leaves of each the bodies of what a crash before
-/// might have left. `Foreign` and `Bad` are of the first unit, in order, whose journal is wrong, and of the first record of it.
+/// given back, with its image as it was, whatever is answered. A crash since it was last taken leaves of each the bodies of what a
+/// crash before might have left. `Foreign` and `Bad` are of the first unit, in order, whose journal is wrong, and of what is wrong
+/// with it first: a frame that isn't whole comes before any record, wherever it stands.
 /// `TooLong` comes if the text has more than `MAX_REPORT` bytes, `NoMemory` if memory runs out, and `DiskFailed` only if the shelf's
 /// count of faults rose. A unit that is named is one of the chart's.
 ///
